@@ -1,0 +1,4 @@
+pub mod Codes
+pub mod ReadBack
+pub mod Widths
+pub mod Words

@@ -1,0 +1,61 @@
+-- What reading a record from bytes shows of them. Assumes nothing.
+use Prim.Native.Nat.{ℕ}
+use native.Mathlib.Omega.{arith}
+use mathlib.Core.Path.{_≡_, refl, sym, _∙_}
+use borrow.Author.Tests.{eq-eqb}
+use mathlib.Core.Bool.{Bool, true, false, cond}
+use mathlib.Core.List.{List}
+use lib.Dec.{leb, eqb}
+use lib.ListN.{length}
+use Rattle.layout.specs.declared.Header.{Header}
+use Rattle.layout.specs.declared.HeaderBytes.the-variants.{Headed, TooShort}
+use Rattle.layout.specs.declared.Record.{Record}
+use Rattle.layout.specs.declared.RecordBytes.the-variants.{Whole, WrongLength}
+use Rattle.layout.specs.Bytes.{header-of, record-of, read-header, read-record}
+
+pub record ReadWhole (bytes : List ℕ) (r : Record) : Type 0 where
+  pub sixteen : eqb (length bytes) 16 ≡ true
+  pub read : r ≡ record-of bytes
+
+pub whole : (bytes : List ℕ) (r : Record) → read-record bytes ≡ Whole r → ReadWhole bytes r
+unfolding read-record
+whole bytes r h = go (eqb (length bytes) 16) refl h
+  where
+    go : (x : Bool) → eqb (length bytes) 16 ≡ x → cond x (Whole (record-of bytes)) WrongLength ≡ Whole r → ReadWhole bytes r
+    go true e h = record { sixteen = e; read = cc }
+    go false e h = let z : _≡_ {A = ℕ} 0 1 = cc in absurd (omega arith)
+
+pub wrong : (bytes : List ℕ) → read-record bytes ≡ WrongLength → eqb (length bytes) 16 ≡ false
+unfolding read-record
+wrong bytes h = go (eqb (length bytes) 16) refl h
+  where
+    go : (x : Bool) → eqb (length bytes) 16 ≡ x → cond x (Whole (record-of bytes)) WrongLength ≡ WrongLength → eqb (length bytes) 16 ≡ false
+    go true e h = let z : _≡_ {A = ℕ} 0 1 = cc in absurd (omega arith)
+    go false e h = e
+
+-- 16 bytes are a record
+pub never-wrong : (bytes : List ℕ) → length bytes ≡ 16 → read-record bytes ≡ WrongLength → ⊥
+never-wrong bytes e h =
+    let d : _≡_ {A = Bool} true false = sym (eq-eqb (length bytes) 16 e) ∙ wrong bytes h in
+    let z : _≡_ {A = ℕ} 0 1 = cc in
+    omega arith
+
+pub record ReadHead (bytes : List ℕ) (h : Header) : Type 0 where
+  pub long : leb 16 (length bytes) ≡ true
+  pub read : h ≡ header-of bytes
+
+pub headed : (bytes : List ℕ) (h : Header) → read-header bytes ≡ Headed h → ReadHead bytes h
+unfolding read-header
+headed bytes h e = go (leb 16 (length bytes)) refl e
+  where
+    go : (x : Bool) → leb 16 (length bytes) ≡ x → cond x (Headed (header-of bytes)) TooShort ≡ Headed h → ReadHead bytes h
+    go true l e = record { long = l; read = cc }
+    go false l e = let z : _≡_ {A = ℕ} 0 1 = cc in absurd (omega arith)
+
+pub short : (bytes : List ℕ) → read-header bytes ≡ TooShort → leb 16 (length bytes) ≡ false
+unfolding read-header
+short bytes e = go (leb 16 (length bytes)) refl e
+  where
+    go : (x : Bool) → leb 16 (length bytes) ≡ x → cond x (Headed (header-of bytes)) TooShort ≡ TooShort → leb 16 (length bytes) ≡ false
+    go true l e = let z : _≡_ {A = ℕ} 0 1 = cc in absurd (omega arith)
+    go false l e = l

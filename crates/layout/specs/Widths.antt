@@ -1,0 +1,14 @@
+-- The widths of a record's fields (01, Trace layout), as facts. Definitions only.
+use Prim.Native.Nat.{ℕ, _^_, _<_}
+use mathlib.Core.List.{List, [], _∷_}
+use Rattle.layout.specs.declared.Record.{Record}
+
+pub record Widths (r : Record) : Type 0 where
+  pub skipped : r .skipped < 2 ^ 24
+  pub ba : r .ba < 4
+  pub addr : r .addr < 2 ^ 13
+  pub masks : r .masks < 2 ^ 8
+
+abbrev pub AllWidths : List Record → Type 0
+AllWidths [] = Unit {0}
+AllWidths (r ∷ rs) = Widths r × AllWidths rs

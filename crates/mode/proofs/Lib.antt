@@ -1,0 +1,5 @@
+pub mod Shown
+pub mod Every
+pub mod Length
+pub mod Printed
+pub mod Rows

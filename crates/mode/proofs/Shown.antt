@@ -1,0 +1,29 @@
+-- What decoding a mode word shows of it. Assumes nothing.
+use Prim.Native.Nat.{ℕ}
+use native.Mathlib.Omega.{arith}
+use mathlib.Core.Path.{_≡_, refl, sym, _∙_}
+use mathlib.Core.Bool.{Bool, true, false, cond}
+use Rattle.mode.specs.declared.Mode.{Mode}
+use Rattle.mode.specs.declared.Decoded.{Decoded}
+use Rattle.mode.specs.declared.Decoded.the-variants.{Known, Reserved}
+use Rattle.mode.specs.Word.{legal, mode-of, decoded}
+
+pub record Shown (w : ℕ) (m : Mode) : Type 0 where
+  pub legal : legal w ≡ true
+  pub mode : m ≡ mode-of w
+
+pub known : (w : ℕ) (m : Mode) → decoded w ≡ Known m → Shown w m
+unfolding decoded
+known w m h = go (legal w) refl h
+  where
+    go : (x : Bool) → legal w ≡ x → cond x (Known (mode-of w)) Reserved ≡ Known m → Shown w m
+    go true e h = record { legal = e; mode = cc }
+    go false e h = let z : _≡_ {A = ℕ} 0 1 = cc in absurd (omega arith)
+
+pub reserved : (w : ℕ) → decoded w ≡ Reserved → legal w ≡ false
+unfolding decoded
+reserved w h = go (legal w) refl h
+  where
+    go : (x : Bool) → legal w ≡ x → cond x (Known (mode-of w)) Reserved ≡ Reserved → legal w ≡ false
+    go true e h = let z : _≡_ {A = ℕ} 0 1 = cc in absurd (omega arith)
+    go false e h = e

@@ -1,0 +1,36 @@
+-- P6 and P7 of document 01 by columns alone, and how many mode words are legal. Assumes nothing.
+use Prim.Native.Nat.{ℕ, zero, suc, _+_}
+use mathlib.Core.Path.{_≡_, refl}
+use mathlib.Core.Bool.{Bool, cond}
+use mathlib.Core.List.{List, [], _∷_}
+use Rattle.mode.specs.Word.{length-of, legal}
+use Rattle.mode.specs.Order.{beat-column}
+
+-- the columns of so many beats from beat i on
+abbrev columns-from : ℕ → ℕ → ℕ → ℕ → List ℕ
+columns-from w c i zero = []
+columns-from w c i (suc k) = beat-column w c i ∷ columns-from w c (suc i) k
+
+-- P6: "Length 8 interleaved from column 13"
+pub interleaved-8-from-13 : columns-from 0x3b 13 0 8 ≡ (13 ∷ 12 ∷ 15 ∷ 14 ∷ 9 ∷ 8 ∷ 11 ∷ 10 ∷ [])
+unfolding length-of beat-column
+interleaved-8-from-13 = refl
+
+-- P6: "Length 4 sequential from 6"
+pub sequential-4-from-6 : columns-from 0x32 6 0 4 ≡ (6 ∷ 7 ∷ 4 ∷ 5 ∷ [])
+unfolding length-of beat-column
+sequential-4-from-6 = refl
+
+-- P7: "Full page from 2,046"
+pub full-page-from-2046 : columns-from 0x37 2046 0 3 ≡ (2046 ∷ 2047 ∷ 0 ∷ [])
+unfolding length-of beat-column
+full-page-from-2046 = refl
+
+-- the legal ones of the words below n
+abbrev count-legal : ℕ → ℕ
+count-legal zero = 0
+count-legal (suc n) = cond (legal n) 1 0 + count-legal n
+
+-- lengths 1, 2, 4, 8 in two orders and full page in one, CL 2 or 3, writes single or not
+pub legal-words : count-legal 8192 ≡ 36
+legal-words = refl

@@ -1,0 +1,181 @@
+// The mode word of document 01, decoded, and the order of columns inside a burst.
+ghost use Prim.Native.Nat.{_%_};
+ghost use mathlib.Core.Path.{_≡_};
+ghost use Rattle.mode.specs.Word.{full-page, length-of, interleaved, latency, single, legal, decoded, write-length, write-endless};
+ghost use Rattle.mode.specs.Order.{in-block, beat-column};
+use units::COLUMNS;
+
+// 003 table 6. A row is a number whose digits are the order of accesses; the rows stand by burst length and by starting
+// column, length 1 by the table's note 7. First Type = Sequential, then Type = Interleaved.
+const ORDERS: [u32; 30] = [
+    0x0, // length 1
+    0x01, // length 2
+    0x10,
+    0x0123, // length 4
+    0x1230,
+    0x2301,
+    0x3012,
+    0x0123_4567, // length 8
+    0x1234_5670,
+    0x2345_6701,
+    0x3456_7012,
+    0x4567_0123,
+    0x5670_1234,
+    0x6701_2345,
+    0x7012_3456,
+    // Type = Interleaved
+    0x0, // length 1
+    0x01, // length 2
+    0x10,
+    0x0123, // length 4
+    0x1032,
+    0x2301,
+    0x3210,
+    0x0123_4567, // length 8
+    0x1032_5476,
+    0x2301_6745,
+    0x3210_7654,
+    0x4567_0123,
+    0x5476_1032,
+    0x6745_2301,
+    0x7654_3210,
+];
+
+// What a mode word that is not reserved says.
+pub struct Mode {
+    pub length: u16,
+    pub fullpage: bool,
+    pub interleaved: bool,
+    pub latency: u8,
+    pub single: bool,
+}
+
+// A mode word: a mode, or reserved (number 17).
+pub enum Decoded {
+    Known(Mode),
+    Reserved,
+}
+
+// M2 to M0: "7 means full page".
+pub fn full_page(w: u16) -> bool
+    ensures { λ r. ⌜ r ≡ full-page w ⌝ }
+{
+    w % 8 == 7
+}
+
+// M2 to M0: "0, 1, 2, 3 mean 1, 2, 4, 8"; in full page, the row's columns. A reserved length is read like full page.
+pub fn length_of(w: u16) -> u16
+    ensures { λ r. ⌜ r ≡ length-of w ⌝ }
+{
+    match w % 8 {
+        0 => 1,
+        1 => 2,
+        2 => 4,
+        3 => 8,
+        _ => COLUMNS,
+    }
+}
+
+// M3.
+pub fn interleaved(w: u16) -> bool
+    ensures { λ r. ⌜ r ≡ interleaved w ⌝ }
+{
+    w / 8 % 2 == 1
+}
+
+// M6 to M4: the CAS latency.
+pub fn latency(w: u16) -> u8
+    ensures { λ r. ⌜ r ≡ latency w ⌝ }
+{
+    (w / 16 % 8) as u8
+}
+
+// "M9 = 1 makes writes single."
+pub fn single(w: u16) -> bool
+    ensures { λ r. ⌜ r ≡ single w ⌝ }
+{
+    w / 512 % 2 == 1
+}
+
+// A word that is not reserved: a length of 003's figure 5, full page with M3 = 0 only; CL 2 or 3 (table 7); M7, M8 and
+// M10 to M12 zero.
+pub fn legal(w: u16) -> bool
+    ensures { λ r. ⌜ r ≡ legal w ⌝ }
+{
+    let cl = latency(w);
+    let m3 = interleaved(w);
+    ((w % 8 < 4) | (full_page(w) & !m3))
+        & ((cl == 2) | (cl == 3))
+        & (w / 128 % 4 == 0)
+        & (w / 1_024 == 0)
+}
+
+// What a LOAD MODE's word says: a mode, or reserved, which is number 17.
+pub fn decode(w: u16) -> Decoded
+    ensures { λ r. ⌜ r ≡ decoded w ⌝ }
+{
+    if legal(w) {
+        Decoded::Known(Mode {
+            length: length_of(w),
+            fullpage: full_page(w),
+            interleaved: interleaved(w),
+            latency: latency(w),
+            single: single(w),
+        })
+    } else {
+        Decoded::Reserved
+    }
+}
+
+// How long a WRITE's burst is: with M9 = 1 "write accesses are single-location".
+pub fn write_length(w: u16) -> u16
+    ensures { λ r. ⌜ r ≡ write-length w ⌝ }
+{
+    if single(w) { 1 } else { length_of(w) }
+}
+
+// A WRITE's burst goes on without end: full page, unless writes are single.
+pub fn write_endless(w: u16) -> bool
+    ensures { λ r. ⌜ r ≡ write-endless w ⌝ }
+{
+    full_page(w) & !single(w)
+}
+
+// Where column c stands in its block: a burst's length is a power of two, so the block is found by a mask.
+pub fn block_place(w: u16, c: u16) -> u16
+    ensures { λ r. ⌜ r ≡ c % length-of w ⌝ }
+{
+    c & (length_of(w) - 1)
+}
+
+// The column inside its block of beat i, from place s of the block: digit i of row s of 003 table 6. What the table
+// has no place for is 0.
+pub fn in_block(w: u16, s: u16, i: u64) -> u16
+    ensures { λ r. ⌜ r ≡ in-block w s i ⌝ }
+{
+    if 3 < w % 8 {
+        return 0;
+    }
+    let length = length_of(w);
+    if length <= s {
+        return 0;
+    }
+    if (length as u64) <= i {
+        return 0;
+    }
+    let row = 15 * (w / 8 % 2) + (length - 1 + s);
+    let digit = 4 * (length - 1 - i as u16);
+    ((ORDERS[row as usize] >> digit) % 16) as u16
+}
+
+// The column of beat i of a burst from column c. "Full page wraps at 2,048 columns and goes on without end."
+pub fn beat_column(w: u16, c: u16, i: u64) -> u16
+    ensures { λ r. ⌜ r ≡ beat-column w c i ⌝ }
+{
+    if full_page(w) {
+        let columns = COLUMNS as u64;
+        return ((c as u64 + i % columns) % columns) as u16;
+    }
+    let s = block_place(w, c);
+    c - s + in_block(w, s, i)
+}
