@@ -1,0 +1,16 @@
+-- `bursts::Burst::cells` meets its contract: its callees' answers are the definition's. Assumes nothing.
+use borrow.Author.Needs.{needs}
+use Rattle.bursts.proofs.Burst.cells.Statement.{statement}
+use Rattle.bursts.proofs.Burst.cells.Tie as tie
+
+beat-column-requires : tie.Need-beat-column-requires
+beat-column-requires c κs = search needs
+
+lanes-low-requires : tie.Need-lanes-low-requires
+lanes-low-requires c κs = search needs
+
+returns : tie.Need-returns
+returns c = rw (c .lanes-low .ensures, c .before .beat-column .ensures)
+
+pub cells-spec : {M : Type 1} → statement M
+cells-spec = tie.close (tie.spec beat-column-requires lanes-low-requires returns)

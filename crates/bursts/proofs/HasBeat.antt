@@ -1,0 +1,49 @@
+-- When a burst has a beat (01, Beats), with clocks compared by subtraction as the code does it. Assumes nothing.
+use Prim.Native.Nat.{ℕ, suc, _+_, _-_, _≤_, _<_}
+use native.Mathlib.Omega.{arith}
+use mathlib.Core.Path.{_≡_}
+use mathlib.Core.Bool.{Bool, true, false, _&&_, _||_, and-false}
+use lib.Dec.{leb, ltb}
+use borrow.Author.Tests.{le-leb, lt-leb, leb-true}
+use Rattle.units.specs.declared.Clock.{Clock}
+use Rattle.units.proofs.Both.{both}
+use Rattle.units.proofs.Subtraction.{leb-alike}
+use Rattle.bursts.specs.declared.Burst.{Burst}
+use Rattle.bursts.specs.declared.Beat.the-variants.{Quiet}
+use Rattle.bursts.specs.Burst.{before-cut, has-beat, write-beat, read-beat}
+
+-- n is before k after s: less than k has gone by since s
+ltb-since : (n s k : ℕ) → s ≤ n → ltb n (s + k) ≡ ltb (n - s) k
+ltb-since n s k h = leb-alike (suc n) (s + k) (suc (n - s)) k (λ p. omega arith) (λ p. omega arith)
+
+module _ (b : Burst) (length : ℕ) (endless : Bool) (n : Clock) where
+  pub none-where-no-burst : b .live ≡ false → has-beat b length endless n ≡ false
+  unfolding has-beat
+  none-where-no-burst h = rw h
+
+  pub none-ahead : n .0 < b .start .0 → has-beat b length endless n ≡ false
+  unfolding has-beat
+  none-ahead h = simp (lt-leb (b .start .0) (n .0) h, and-false)
+
+  pub since-registration : b .live ≡ true → b .start .0 ≤ n .0
+      → has-beat b length endless n ≡ (before-cut n (b .cut) && (endless || ltb (n .0 - b .start .0) length))
+  unfolding has-beat
+  since-registration l h = rw (l, le-leb (b .start .0) (n .0) h, ltb-since (n .0) (b .start .0) length h)
+
+  -- a beat is on a clock that is not before the registration
+  pub beat-is-not-ahead : has-beat b length endless n ≡ true → b .start .0 ≤ n .0
+  unfolding has-beat
+  beat-is-not-ahead h =
+      leb-true (b .start .0) (n .0)
+      (both (b .live) (leb (b .start .0) (n .0))
+      (both (b .live && leb (b .start .0) (n .0)) (before-cut n (b .cut))
+      (both (b .live && leb (b .start .0) (n .0) && before-cut n (b .cut)) (endless || ltb (n .0) (b .start .0 + length)) h .0) .0) .1)
+
+module _ (b : Burst) (masks : ℕ) (n : Clock) where
+  pub quiet-write : b .live ≡ false → Quiet ≡ write-beat b masks n
+  unfolding write-beat has-beat
+  quiet-write h = rw h
+
+  pub quiet-read : b .live ≡ false → Quiet ≡ read-beat b masks n
+  unfolding read-beat has-beat
+  quiet-read h = rw (h, and-false)

@@ -1,0 +1,5 @@
+pub mod AutoPrecharge
+pub mod Four
+pub mod HasBeat
+pub mod HeldMasks
+pub mod Untouched

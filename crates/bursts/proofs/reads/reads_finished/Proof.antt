@@ -1,0 +1,48 @@
+-- `bursts::reads::reads_finished` meets its contract: the four one by one. Assumes nothing.
+use mathlib.Core.Path.{_≡_}
+use lib.ListN.{length}
+use borrow.Author.Needs.{needs}
+use Rattle.bursts.proofs.Four.{reads-finished-four}
+use Rattle.bursts.proofs.reads.reads_finished.Statement.{statement}
+use Rattle.bursts.proofs.reads.reads_finished.Tie as tie
+
+array-copy-out-read-finished : tie.Need-array-copy-out-read-finished
+array-copy-out-read-finished c = search needs
+
+read-finished-requires : tie.Need-read-finished-requires
+read-finished-requires c κs = search needs
+
+array-copy-out-read-finished-2 : tie.Need-array-copy-out-read-finished-2
+array-copy-out-read-finished-2 c = search needs
+
+read-finished-requires-2 : tie.Need-read-finished-requires-2
+read-finished-requires-2 c κs = search needs
+
+array-copy-out-read-finished-3 : tie.Need-array-copy-out-read-finished-3
+array-copy-out-read-finished-3 c = search needs
+
+read-finished-requires-3 : tie.Need-read-finished-requires-3
+read-finished-requires-3 c κs = search needs
+
+array-copy-out-read-finished-4 : tie.Need-array-copy-out-read-finished-4
+array-copy-out-read-finished-4 c = search needs
+
+read-finished-requires-4 : tie.Need-read-finished-requires-4
+read-finished-requires-4 c κs = search needs
+
+returns : tie.Need-returns
+returns c = let h : length (c .before .before .before .before .before .before .before .before .args .t2) ≡ 4 = search needs in rw (c .read-finished4 .ensures, c .before .before .read-finished3 .ensures, c .before .before .before .before .read-finished2 .ensures, c .before .before .before .before .before .before .read-finished .ensures, reads-finished-four _ h)
+
+pub reads-finished-spec : {M : Type 1} → statement M
+reads-finished-spec =
+    tie.close
+    (tie.spec
+    array-copy-out-read-finished
+    read-finished-requires
+    array-copy-out-read-finished-2
+    read-finished-requires-2
+    array-copy-out-read-finished-3
+    read-finished-requires-3
+    array-copy-out-read-finished-4
+    read-finished-requires-4
+    returns)

@@ -1,0 +1,137 @@
+-- The data bus: all bursts and the masks, the beat on a clock, numbers 19 and 20 (01, Beats). Definitions only.
+use Prim.Native.Nat.{ℕ, _+_, _-_}
+use mathlib.Core.Bool.{Bool, true, false, not, _&&_, cond}
+use mathlib.Core.List.{List, [], _∷_}
+use lib.Dec.{leb, eqb}
+use lib.ListN.{getD, take}
+use Rattle.units.specs.declared.Clock.{Clock}
+use Rattle.units.specs.declared.Event.{Event}
+use Rattle.units.specs.declared.Event.the-variants.{Never, On}
+use Rattle.units.specs.Time.{clock}
+use Rattle.layout.specs.declared.Record.{Record}
+use Rattle.layout.specs.declared.Command.{Command}
+use Rattle.layout.specs.declared.Command.the-variants.{Read, Write}
+use Rattle.layout.specs.Commands.{is}
+use Rattle.mode.specs.Word.{length-of, write-length}
+use Rattle.bursts.specs.declared.Burst.{Burst}
+use Rattle.bursts.specs.declared.Masks.{Masks}
+use Rattle.bursts.specs.declared.Bus.{Bus}
+use Rattle.bursts.specs.declared.Cells.{Cells}
+use Rattle.bursts.specs.declared.Beat.{Beat}
+use Rattle.bursts.specs.declared.Beat.the-variants.{Quiet, Stores, Drives}
+use Rattle.bursts.specs.Burst.{no-burst, burst-at, cut-by, write-beat, read-beat, finished}
+
+-- ── Masks ──
+
+-- all masks HIGH
+abbrev pub all-high : ℕ
+all-high = 255
+
+-- the masks on clock m, where `last` is the clock of the last record: "a skipped clock had .. all masks HIGH"
+unfoldable pub masks-on : Event → Masks → Clock → ℕ
+masks-on Never held m = all-high
+masks-on (On x) held m =
+    cond (leb (m .0) (x .0)) (getD (held .first ∷ held .second ∷ held .third ∷ []) (x .0 - m .0) all-high) all-high
+
+-- "two clocks earlier" than n
+abbrev pub two-before : Clock → Clock
+two-before n = clock (n .0 - 2)
+
+-- the masks that a record after so many skipped clocks leaves: its own, those of the clock before it, and of the one before that
+unfoldable pub masks-after : ℕ → ℕ → Masks → Masks
+masks-after skipped masks held =
+    record {
+      first = masks;
+      second = cond (eqb skipped 0) (held .first) all-high;
+      third = cond (eqb skipped 0) (held .second) (cond (eqb skipped 1) (held .first) all-high);
+    }
+
+abbrev pub all-masks-high : Masks
+all-masks-high = record { first = all-high; second = all-high; third = all-high }
+
+-- ── The beat on a clock ──
+
+-- two beats never fall on one clock in a trace; elsewhere the first is meant
+abbrev pub or-else : Beat → Beat → Beat
+or-else Quiet b = b
+or-else (Stores c) b = Stores c
+or-else (Drives c) b = Drives c
+
+-- of READ bursts, the latest first
+abbrev pub reads-beat : List Burst → ℕ → Clock → Beat
+reads-beat [] masks n = Quiet
+reads-beat (b ∷ bs) masks n = or-else (read-beat b masks n) (reads-beat bs masks n)
+
+-- ── What a record leaves on the bus ──
+
+abbrev pub no-reads : List Burst
+no-reads = no-burst ∷ no-burst ∷ no-burst ∷ no-burst ∷ []
+
+abbrev pub cut-each : Command → ℕ → ℕ → Clock → List Burst → List Burst
+cut-each k addr ba n [] = []
+cut-each k addr ba n (b ∷ bs) = cut-by k addr ba n b ∷ cut-each k addr ba n bs
+
+-- READ bursts, from those that the command left cut: "a WRITE at x with r < x <= r + CL + i" loses all that is to come
+unfoldable pub reads-from : Command → Burst → List Burst → List Burst
+reads-from k new bs = cond (is k Write) no-reads (cond (is k Read) (new ∷ take 3 bs) bs)
+
+-- the READ bursts after command k of record r on clock n, in mode `word`, of the open row
+abbrev pub reads-after : Command → Record → Clock → ℕ → ℕ → List Burst → List Burst
+reads-after k r n word row bs =
+    reads-from k (burst-at word n (r .addr) (r .ba) row) (cut-each k (r .addr) (r .ba) n bs)
+
+-- the WRITE burst after it
+abbrev pub write-after : Command → Record → Clock → ℕ → ℕ → Burst → Burst
+write-after k r n word row b =
+    cond (is k Write) (burst-at word n (r .addr) (r .ba) row) (cut-by k (r .addr) (r .ba) n b)
+
+unfoldable pub bus-after : Command → Record → Clock → ℕ → ℕ → Bus → Bus
+bus-after k r n word row u =
+    record {
+      write = write-after k r n word row (u .write);
+      reads = reads-after k r n word row (u .reads);
+      masks = masks-after (r .skipped) (r .masks) (u .masks);
+    }
+
+-- "the beat on its own clock", n, of a record with these masks, from the bursts that it leaves; the masks before it are `held`
+unfoldable pub beat-on : Event → Masks → Burst → List Burst → ℕ → Clock → Beat
+beat-on last held write reads masks n =
+    or-else (write-beat write masks n) (reads-beat reads (masks-on last held (two-before n)) n)
+
+-- ── Numbers 19 and 20 ──
+
+abbrev pub reads-finished : Clock → List Burst → Bool
+reads-finished n [] = true
+reads-finished n (b ∷ bs) = finished (length-of (b .word)) n b && reads-finished n bs
+
+-- 19: no auto precharge burst is unfinished on clock n
+unfoldable pub bursts-finished : Burst → List Burst → Clock → Bool
+bursts-finished write reads n = finished (write-length (write .word)) n write && reads-finished n reads
+
+-- some lane is driven
+abbrev pub drives-lane : Beat → Bool
+drives-lane Quiet = false
+drives-lane (Stores c) = false
+drives-lane (Drives c) = not (eqb (c .lanes) 0)
+
+unfoldable pub driven : Event → Masks → List Burst → Clock → Bool
+driven last held reads n = drives-lane (reads-beat reads (masks-on last held (two-before n)) n)
+
+abbrev pub one-before : Clock → Clock
+one-before n = clock (n .0 - 1)
+
+-- 20: no lane "would be driven on its clock, or is driven one clock before"
+unfoldable pub bus-clear : Event → Masks → List Burst → Clock → Bool
+bus-clear last held reads n = not (driven last held reads n) && not (driven last held reads (one-before n))
+
+-- ── Stores ──
+
+-- a byte is stored in bank i
+abbrev pub stores-in : Beat → ℕ → Bool
+stores-in Quiet i = false
+stores-in (Stores c) i = eqb i (c .bank) && not (eqb (c .lanes) 0)
+stores-in (Drives c) i = false
+
+-- the bus before the first record
+abbrev pub quiet-bus : Bus
+quiet-bus = record { write = no-burst; reads = no-reads; masks = all-masks-high }

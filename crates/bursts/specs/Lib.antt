@@ -1,0 +1,3 @@
+pub mod Burst
+pub mod Bus
+pub mod Cases

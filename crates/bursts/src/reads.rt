@@ -1,0 +1,112 @@
+// The four READ bursts that can still have beats, the latest first (01, Beats). They are walked by value.
+ghost use mathlib.Core.Path.{_≡_};
+ghost use mathlib.Core.Bool.{_||_};
+ghost use Rattle.layout.specs.declared.Command.the-variants.{Terminate, Precharge};
+ghost use Rattle.layout.specs.Commands.{is, access};
+ghost use Rattle.mode.specs.Word.{length-of};
+ghost use Rattle.bursts.specs.Burst.{finished};
+ghost use Rattle.bursts.specs.Bus.{no-reads, reads-beat, cut-each, reads-from, reads-after, reads-finished};
+use crate::Beat;
+use crate::Burst;
+use crate::beats::or_else;
+use crate::cuts::is;
+use layout::Command;
+use layout::Record;
+use layout::is_access;
+use mode::length_of;
+use units::Clock;
+
+// No READ burst: what a WRITE leaves.
+pub fn no_reads() -> [Burst; 4]
+    ensures { λ r. ⌜ r ≡ no-reads ⌝ }
+{
+    let none = Burst::none();
+    [none, none, none, none]
+}
+
+// The command can end a burst. NOP, COMMAND INHIBIT, ACTIVE, AUTO REFRESH and LOAD MODE end none.
+pub fn can_end(k: Command) -> bool
+    ensures { λ r. ⌜ r ≡ (access k || is k Terminate || is k Precharge) ⌝ }
+{
+    is_access(k) | is(k, Command::Terminate) | is(k, Command::Precharge)
+}
+
+// The beat of the READ bursts on clock n, the latest READ's first. `masks` are those of two clocks before.
+pub fn reads_beat(bs: [Burst; 4], masks: u8, n: Clock) -> Beat
+    ensures { λ r. ⌜ r ≡ reads-beat bs masks n ⌝ }
+{
+    let a = bs[0].read_beat(masks, n);
+    let b = bs[1].read_beat(masks, n);
+    let c = bs[2].read_beat(masks, n);
+    let d = bs[3].read_beat(masks, n);
+    or_else(a, or_else(b, or_else(c, d)))
+}
+
+// Each burst as this command on clock n leaves it.
+pub fn cut_each(k: Command, addr: u16, ba: u8, n: Clock, bs: [Burst; 4]) -> [Burst; 4]
+    ensures { λ r. ⌜ r ≡ cut-each k addr ba n bs ⌝ }
+{
+    let a = bs[0].cut_by(k, addr, ba, n);
+    let b = bs[1].cut_by(k, addr, ba, n);
+    let c = bs[2].cut_by(k, addr, ba, n);
+    let d = bs[3].cut_by(k, addr, ba, n);
+    [a, b, c, d]
+}
+
+// The bursts from those that the command left cut. A WRITE loses every beat still to come: "a WRITE at x with
+// r < x <= r + CL + i". A READ is the latest from now on; a fifth has no beat left.
+pub fn reads_from(k: Command, new: Burst, bs: [Burst; 4]) -> [Burst; 4]
+    ensures { λ r. ⌜ r ≡ reads-from k new bs ⌝ }
+{
+    if is(k, Command::Write) {
+        return no_reads();
+    }
+    if is(k, Command::Read) {
+        let a = bs[0];
+        let b = bs[1];
+        let c = bs[2];
+        return [new, a, b, c];
+    }
+    bs
+}
+
+// The bursts after command k of record r on clock n, in mode `word`, of the open row. Most records end no burst, and
+// then nothing is walked.
+pub fn reads_after(
+    k: Command,
+    r: Record,
+    n: Clock,
+    word: u16,
+    row: u16,
+    bs: [Burst; 4],
+) -> [Burst; 4]
+    ensures { λ x. ⌜ x ≡ reads-after k r n word row bs ⌝ }
+{
+    if !can_end(k) {
+        return bs;
+    }
+    let left = cut_each(k, r.addr, r.ba, n, bs);
+    let new = Burst::at(word, n, r.addr, r.ba, row);
+    reads_from(k, new, left)
+}
+
+impl Burst {
+    // A READ's burst asks no auto precharge, or is finished on clock n. Number 19 ends at r + length, though beats run on
+    // for CL clocks.
+    pub fn read_finished(self, n: Clock) -> bool
+        ensures { λ r. ⌜ r ≡ finished (length-of (self .word)) n self ⌝ }
+    {
+        self.finished(length_of(self.word), n)
+    }
+}
+
+// Each of the four asks no auto precharge, or is finished.
+pub fn reads_finished(n: Clock, bs: [Burst; 4]) -> bool
+    ensures { λ r. ⌜ r ≡ reads-finished n bs ⌝ }
+{
+    let a = bs[0].read_finished(n);
+    let b = bs[1].read_finished(n);
+    let c = bs[2].read_finished(n);
+    let d = bs[3].read_finished(n);
+    a & (b & (c & d))
+}
