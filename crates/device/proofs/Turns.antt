@@ -1,0 +1,90 @@
+-- A turn by what asking finds. Assumes nothing.
+use Prim.Native.Nat.{ℕ}
+use mathlib.Core.Path.{_≡_, refl, ap, sym, subst, _∙_}
+use mathlib.Core.Bool.{true, false}
+use mathlib.Core.List.{List, _∷_}
+use lib.Dec.{eqb}
+use lib.ListN.{length}
+use Rattle.speed.proofs.Bounds.{bounds}
+use Rattle.layout.specs.declared.Record.{Record}
+use Rattle.layout.specs.Bytes.{record-of}
+use Rattle.layout.specs.Widths.{Widths}
+use Rattle.layout.proofs.ReadBack.{ReadWhole}
+use Rattle.layout.proofs.Widths.{record-fits}
+use Rattle.bursts.specs.declared.Beat.the-variants.{Quiet}
+use Rattle.page.specs.Store.{stored}
+use Rattle.device.specs.declared.Device.{Device}
+use Rattle.device.specs.declared.Setup.{Setup}
+use Rattle.device.specs.declared.Verdict.{Verdict}
+use Rattle.device.specs.declared.Verdict.the-variants.{Taken, Refused}
+use Rattle.device.specs.Numbers.{first-broken, number-of, interval-of}
+use Rattle.device.specs.Rules.{ask}
+use Rattle.device.specs.After.{own-beat, next}
+use Rattle.device.specs.Turn.{Turned, turned, turn-of}
+use Rattle.device.specs.OneRecord.{state-rules, entry-rules, Stepped, stepped, outcome, refused, judged, step}
+use Rattle.device.specs.Reach.{Call}
+use Rattle.device.proofs.Admitted.{admitted, bank-fits-at}
+use Rattle.device.proofs.Kept.{kept}
+use Rattle.device.proofs.OneRecord.{judged-taken, judged-refused, step-entered, entry-refused, period-most}
+
+-- the one-record call's part after its entry, from the turn
+abbrev pub from-turn : ℕ → Turned → Stepped
+from-turn k x =
+    stepped (outcome (number-of (x .turn .verdict)) (interval-of (x .turn .verdict)) k (x .turn .beat) (x .turn .next)) (x .page)
+
+module _ (u : Setup) (s : Device) (r : Record) (page : List ℕ) where
+  pub turn-taken : ask u s r ≡ Taken
+      → turn-of u s r page
+      ≡ turned (record { verdict = Taken; beat = own-beat s r; next = next u s r }) (stored (s .core .bank) (s .core .row) (r .dq) (own-beat s r) page)
+  unfolding turn-of
+  turn-taken p = rw (p, turn-of)
+
+  pub turn-refused : (n i : ℕ) → ask u s r ≡ Refused n i → turn-of u s r page ≡ turned (record { verdict = Refused n i; beat = Quiet; next = s }) page
+  unfolding turn-of
+  turn-refused n i p = rw (p, turn-of)
+
+  pub judged-turn : judged u s r page ≡ from-turn (s .core .number) (turn-of u s r page)
+  judged-turn = go (ask u s r) refl
+    where
+      go : (v : Verdict) → ask u s r ≡ v → judged u s r page ≡ from-turn (s .core .number) (turn-of u s r page)
+      go Taken p = judged-taken u s r page p ∙ sym (ap (from-turn (s .core .number)) (turn-taken p))
+      go (Refused n i) p = judged-refused u s r page n i p ∙ sym (ap (from-turn (s .core .number)) (turn-refused n i p))
+
+-- ── The call by what is found ──
+
+module _ (u : Setup) (s : Device) (bytes page : List ℕ) where
+  pub step-wrong : eqb (length bytes) 16 ≡ false → step u s bytes page ≡ refused 1 0 0 s page
+  unfolding entry-rules
+  step-wrong h = entry-refused u s bytes page 1 0 (rw h)
+
+  module _ (h : eqb (length bytes) 16 ≡ true) where
+    entry-state : first-broken (entry-rules u s bytes page) ≡ first-broken (state-rules u s (length page))
+    unfolding entry-rules
+    entry-state = rw h
+
+    pub step-unfit : (n i : ℕ) → first-broken (state-rules u s (length page)) ≡ Refused n i → step u s bytes page ≡ refused n i 0 s page
+    step-unfit n i p = entry-refused u s bytes page n i (entry-state ∙ p)
+
+    pub step-turn : {r : Record} → first-broken (state-rules u s (length page)) ≡ Taken → r ≡ record-of bytes
+        → step u s bytes page ≡ from-turn (s .core .number) (turn-of u s r page)
+    step-turn p e =
+        step-entered u s bytes page (entry-state ∙ p)
+        ∙ judged-turn u s (record-of bytes) page
+        ∙ ap (λ (x : Record). from-turn (s .core .number) (turn-of u s x page)) (sym e)
+
+-- what a call that is entered may rely on
+pub call-of : (u : Setup) (s : Device) (lent : ℕ) (r : Record) → first-broken (state-rules u s lent) ≡ Taken → Widths r → Call (u .table) (s .core) (s .banks) r
+unfolding state-rules
+call-of u s lent r p w =
+    let a = admitted s (kept 25 0 (state-rules u s lent) p) in
+    record {
+      table = bounds (u .table) (kept 6 0 (state-rules u s lent) p);
+      period = period-most (s .core .period) (kept 3 0 (state-rules u s lent) p);
+      core = a .core;
+      banks = record { each = λ i. bank-fits-at (s .banks) i (a .banks) };
+      widths = w;
+    }
+
+-- a record that was read keeps to its widths
+pub read-widths : {bytes : List ℕ} {r : Record} → ReadWhole bytes r → Widths r
+read-widths {bytes} w = subst (λ (x : Record). Widths x) (sym (w .read)) (record-fits bytes)

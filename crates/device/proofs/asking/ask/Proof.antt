@@ -1,0 +1,53 @@
+use Rattle.device.specs.Rules.{rules}
+use mathlib.Core.Path.{sym, _∙_}
+use Rattle.device.proofs.Kept.{every-clock}
+use Rattle.device.proofs.Ladders.{first-join}
+use borrow.Author.Needs.{needs}
+use Rattle.device.proofs.asking.ask.Statement.{statement}
+use Rattle.device.proofs.asking.ask.Tie as tie
+use Rattle.device.proofs.asking.ask.Reads as reads
+use Rattle.device.proofs.asking.ask.Lts as lts
+use Rattle.device.proofs.asking.ask_command.Reads as ask-command-reads
+use Rattle.device.proofs.rules.every_verdict.Reads as every-verdict-reads
+use Rattle.layout.proofs.command_of.Reads as command-of-reads
+
+-- src/asking.rt:227:9
+every-verdict-requires : tie.Need-every-verdict-requires
+every-verdict-requires c κs = search needs
+
+enum-told : tie.Need-enum-told
+enum-told c = search needs
+
+-- src/asking.rt:229:9
+enum-told-2 : tie.Need-enum-told-2
+enum-told-2 c = search needs
+
+-- src/asking.rt:229:9
+returns : tie.Need-returns
+unfolding rules
+returns c = rw (first-join, ← c .before .before .every-verdict .ensures, c .enum-told2 .given .1)
+
+-- src/asking.rt:231:9
+command-of-requires : tie.Need-command-of-requires
+command-of-requires c κs = search needs
+
+-- src/asking.rt:232:5
+ask-command-requires : tie.Need-ask-command-requires
+ask-command-requires c κs = (c .before .before .before .before .before .pre, every-clock _ _ _ _ _ _ _ (sym (c .before .before .before .every-verdict .ensures) ∙ c .before .enum-told .given .1))
+
+-- src/asking.rt:221:1
+returns-2 : tie.Need-returns-2
+unfolding rules
+returns-2 c = rw (c .ask-command .ensures, first-join, ← c .before .before .before .before .every-verdict .ensures, c .before .before .enum-told .given .1, c .before .command-of .ensures)
+
+pub ask-spec : {M : Type 1} → statement M
+ask-spec =
+    tie.close
+    (tie.spec
+    every-verdict-requires
+    enum-told
+    enum-told-2
+    returns
+    command-of-requires
+    ask-command-requires
+    returns-2)

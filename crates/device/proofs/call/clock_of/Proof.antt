@@ -1,0 +1,23 @@
+use native.Mathlib.Omega.{arith}
+use Rattle.device.proofs.Times.{next-most}
+use borrow.Author.Needs.{needs}
+use Rattle.device.proofs.call.clock_of.Statement.{statement}
+use Rattle.device.proofs.call.clock_of.Tie as tie
+use Rattle.device.proofs.call.clock_of.Reads as reads
+use Rattle.device.proofs.call.clock_of.Lts as lts
+use Rattle.device.proofs.call.next_clock.Reads as next-clock-reads
+
+-- src/call.rt:44:11
+next-clock-requires : tie.Need-next-clock-requires
+next-clock-requires c κs = search needs
+
+-- src/call.rt:44:11
+add-t5 : tie.Need-add-t5
+add-t5 c = omega (arith, next-most (c .before .args .last) (c .before .pre), c .next-clock .ensures)
+
+-- src/call.rt:40:1
+returns : tie.Need-returns
+returns c = rw (c .next-clock .ensures)
+
+pub clock-of-spec : {M : Type 1} → statement M
+clock-of-spec = tie.close (tie.spec next-clock-requires add-t5 returns)

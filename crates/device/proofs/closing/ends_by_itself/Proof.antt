@@ -1,0 +1,28 @@
+use borrow.Author.Needs.{needs}
+use Rattle.device.proofs.closing.ends_by_itself.Statement.{statement}
+use Rattle.device.proofs.closing.ends_by_itself.Tie as tie
+use Rattle.device.proofs.closing.ends_by_itself.Reads as reads
+use Rattle.device.proofs.closing.ends_by_itself.Lts as lts
+use Rattle.layout.proofs.code_of.Reads as code-of-reads
+use Rattle.mode.proofs.full_page.Reads as full-page-reads
+use Rattle.mode.proofs.single.Reads as single-reads
+
+-- src/closing.rt:44:9
+full-page-requires : tie.Need-full-page-requires
+full-page-requires c κs = search needs
+
+-- src/closing.rt:45:9
+single-requires : tie.Need-single-requires
+single-requires c κs = search needs
+
+-- src/closing.rt:46:15
+code-of-requires : tie.Need-code-of-requires
+code-of-requires c κs = search needs
+
+-- src/closing.rt:41:1
+returns : tie.Need-returns
+returns c = rw (c .code-of .ensures, c .before .single .ensures, c .before .before .full-page .ensures)
+
+pub ends-by-itself-spec : {M : Type 1} → statement M
+ends-by-itself-spec =
+    tie.close (tie.spec full-page-requires single-requires code-of-requires returns)

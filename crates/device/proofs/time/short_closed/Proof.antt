@@ -1,0 +1,43 @@
+use Rattle.device.specs.Shorts.{short-closed}
+use borrow.Author.Needs.{needs}
+use Rattle.device.proofs.time.short_closed.Statement.{statement}
+use Rattle.device.proofs.time.short_closed.Tie as tie
+use Rattle.device.proofs.time.short_closed.Reads as reads
+use Rattle.device.proofs.time.short_closed.Lts as lts
+use Rattle.units.proofs.Ps.met.Reads as met-reads
+
+-- src/time.rt:68:31
+enum-told : tie.Need-enum-told
+enum-told c = search needs
+
+-- src/time.rt:69:47
+enum-told-2 : tie.Need-enum-told-2
+enum-told-2 c = search needs
+
+-- src/time.rt:70:26
+enum-known-status : tie.Need-enum-known-status
+enum-known-status c = search needs
+
+-- src/time.rt:70:40
+met-requires : tie.Need-met-requires
+met-requires c κs = search needs
+
+-- src/time.rt:64:1
+returns : tie.Need-returns
+unfolding short-closed
+returns c = rw (c .enum-told .given .1)
+
+-- src/time.rt:64:1
+returns-2 : tie.Need-returns-2
+unfolding short-closed
+returns-2 c = rw (c .enum-told2 .given .1)
+
+-- src/time.rt:64:1
+returns-3 : tie.Need-returns-3
+unfolding short-closed
+returns-3 c = rw (c .before .before .status .given .1, c .met .ensures)
+
+pub short-closed-spec : {M : Type 1} → statement M
+short-closed-spec =
+    tie.close
+    (tie.spec enum-told enum-told-2 enum-known-status met-requires returns returns-2 returns-3)

@@ -1,0 +1,82 @@
+-- The one-record call, from bytes and a state (01, Verdicts). Definitions only.
+use Prim.Native.Nat.{ℕ}
+use mathlib.Core.Bool.{Bool, _&&_}
+use mathlib.Core.List.{List, [], _∷_}
+use lib.Dec.{leb, eqb}
+use lib.ListN.{length}
+use Rattle.units.specs.declared.Ps.{Ps}
+use Rattle.units.specs.Module.{page-bytes}
+use Rattle.speed.specs.Table.{table-fits}
+use Rattle.layout.specs.declared.Record.{Record}
+use Rattle.layout.specs.Bytes.{record-of}
+use Rattle.bursts.specs.declared.Beat.{Beat}
+use Rattle.bursts.specs.declared.Beat.the-variants.{Quiet}
+use Rattle.page.specs.Store.{stored}
+use Rattle.device.specs.declared.Device.{Device}
+use Rattle.device.specs.declared.Setup.{Setup}
+use Rattle.device.specs.declared.Verdict.{Verdict}
+use Rattle.device.specs.declared.Verdict.the-variants.{Taken, Refused}
+use Rattle.device.specs.declared.Answer.{Answer}
+use Rattle.device.specs.declared.Outcome.{Outcome}
+use Rattle.device.specs.Numbers.{Rule, rule, first-broken}
+use Rattle.device.specs.Rules.{ask}
+use Rattle.device.specs.After.{own-beat, next}
+use Rattle.device.specs.Fits.{fits}
+
+-- "period outside 1,000 to 65,535"
+abbrev pub period-fits : Ps → Bool
+period-fits p = leb 1_000 (p .0) && leb (p .0) 65_535
+
+-- 3, 6, 7 and 25, of a state and a page of so many bytes
+unfoldable pub state-rules : Setup → Device → ℕ → List Rule
+state-rules u s lent =
+    rule 3 0 (period-fits (s .core .period))
+    ∷ rule 6 0 (table-fits (u .table))
+    ∷ rule 7 0 (eqb lent page-bytes)
+    ∷ rule 25 0 (fits s)
+    ∷ []
+
+-- "A record not 16 bytes long gives 1, then 3, 6, 7, 25": what is tried before the record is looked at
+unfoldable pub entry-rules : Setup → Device → List ℕ → List ℕ → List Rule
+entry-rules u s bytes page = rule 1 0 (eqb (length bytes) 16) ∷ state-rules u s (length page)
+
+-- what the call leaves: the outcome, and the page
+pub record Stepped : Type 0 where
+  pub outcome : Outcome
+  pub page : List ℕ
+
+abbrev pub stepped : Outcome → List ℕ → Stepped
+stepped o page = record { outcome = o; page = page }
+
+-- "The state goes in, and the answer comes back beside the next state"
+abbrev pub outcome : ℕ → ℕ → ℕ → Beat → Device → Outcome
+outcome number interval reported beat next =
+    record { answer = record { number = number; interval = interval; reported = reported; beat = beat }; next = next }
+
+-- "the refused record changes neither state nor page"
+abbrev pub refused : ℕ → ℕ → ℕ → Device → List ℕ → Stepped
+refused number interval reported s page = record { outcome = outcome number interval reported Quiet s; page = page }
+
+-- "a taken record 0 and its own number"
+abbrev pub taken : Setup → Device → Record → List ℕ → Stepped
+taken u s r page =
+    record {
+      outcome = outcome 0 0 (s .core .number) (own-beat s r) (next u s r);
+      page = stored (s .core .bank) (s .core .row) (r .dq) (own-beat s r) page;
+    }
+
+-- ask, and take where nothing was found: "10 and all below it report the record's number"
+unfoldable pub judged : Setup → Device → Record → List ℕ → Stepped
+judged u s r page =
+    elim (ask u s r) [
+      | Taken ↦ taken u s r page
+      | Refused n i ↦ refused n i (s .core .number) s page
+    ]
+
+-- "1 to 7 and 25 leave page and state untouched, report record 0 and look at no record"
+unfoldable pub step : Setup → Device → List ℕ → List ℕ → Stepped
+step u s bytes page =
+    elim (first-broken (entry-rules u s bytes page)) [
+      | Taken ↦ judged u s (record-of bytes) page
+      | Refused n i ↦ refused n i 0 s page
+    ]

@@ -1,0 +1,248 @@
+// Taking: the next state and the beat of a record that asking has passed.
+ghost use mathlib.Core.Path.{_≡_};
+ghost use mathlib.Core.Bool.{cond, _||_};
+ghost use Rattle.layout.specs.declared.Command.the-variants.{Active, Precharge};
+ghost use Rattle.layout.specs.Commands.{is};
+ghost use Prim.Native.Nat.{_≤_, _<_};
+ghost use Rattle.units.specs.declared.Event.the-variants as Event;
+ghost use Rattle.speed.specs.Bounds.{Bounds};
+ghost use Rattle.device.specs.Reach.{FitPeriod, BanksFit};
+ghost use Rattle.device.specs.Admitted.{FitBank, FitStatus};
+ghost use Rattle.device.specs.Fits.{number-max};
+ghost use Rattle.device.specs.Rules.{asks-auto};
+ghost use Rattle.device.specs.After.{one-more, startup-after, core-from, with-status, precharged, auto-closed, activated, bank-after, marked, commanded, mark-banks};
+use crate::Bank;
+use crate::Core;
+use crate::Refreshes;
+use crate::Register;
+use crate::StartUp;
+use crate::Status;
+use crate::closing;
+use bursts::Beat;
+use bursts::Bus;
+use layout::Command;
+use layout::Record;
+use speed::SpeedTable;
+use units::Clock;
+use units::Event;
+use units::Ps;
+
+fn event_if(x: bool, n: Clock, old: Event) -> Event
+    ensures { λ r. ⌜ r ≡ cond x (Event.On n) old ⌝ }
+{
+    if x { Event::On(n) } else { old }
+}
+
+fn one_more(n: Clock, f: Refreshes) -> Refreshes
+    ensures { λ r. ⌜ r ≡ one-more n f ⌝ }
+{
+    match f {
+        Refreshes::None => Refreshes::One(n),
+        Refreshes::One(_) => Refreshes::Two(n),
+        Refreshes::Two(_) => Refreshes::Two(n),
+    }
+}
+
+// One refresh more, where x.
+fn refreshes_if(x: bool, n: Clock, f: Refreshes) -> Refreshes
+    ensures { λ r. ⌜ r ≡ cond x (one-more n f) f ⌝ }
+{
+    if x { one_more(n, f) } else { f }
+}
+
+fn register_if(x: bool, word: u16, n: Clock, old: Register) -> Register
+    ensures { λ r. ⌜ r ≡ cond x (Register.Loaded word n) old ⌝ }
+{
+    if x {
+        Register::Loaded { word, clock: n }
+    } else {
+        old
+    }
+}
+
+fn startup_after(k: Command, r: Record, n: Clock, u: StartUp) -> StartUp
+    ensures { λ x. ⌜ x ≡ startup-after k r n u ⌝ }
+{
+    let code = layout::code_of(k);
+    let every = layout::a10(r.addr);
+    let all = u.allclosed;
+    let old = u.refreshes;
+    let held = u.register;
+    let allclosed = event_if((code == 2) & every, n, all);
+    let refreshes = refreshes_if(code == 1, n, old);
+    let register = register_if(code == 0, r.addr, n, held);
+    StartUp {
+        allclosed,
+        refreshes,
+        register,
+    }
+}
+
+// All but the banks.
+pub fn core_from(c: Core, k: Command, r: Record, n: Clock, bus: Bus) -> Core
+    requires { ⌜ c .number ≤ number-max ⌝ }
+    ensures { λ x. ⌜ x ≡ core-from c k r n bus ⌝ }
+{
+    let old = c.startup;
+    let startup = startup_after(k, r, n, old);
+    let last = Event::On(n);
+    let period = c.period;
+    Core {
+        period,
+        bank: c.bank,
+        row: c.row,
+        number: c.number + 1,
+        last,
+        startup,
+        bus,
+    }
+}
+
+fn with_status(x: Status, b: Bank) -> Bank
+    ensures { λ r. ⌜ r ≡ with-status x b ⌝ }
+{
+    let active = b.active;
+    let stored = b.stored;
+    Bank {
+        status: x,
+        active,
+        stored,
+    }
+}
+
+// "It closes now. A closed bank .. keeps that closing time"; the first PRECHARGE ALL closes whatever it finds.
+fn precharged(again: bool, now: Ps, x: Status) -> Status
+    ensures { λ r. ⌜ r ≡ precharged again now x ⌝ }
+{
+    match x {
+        Status::NotStarted => Status::Closed { closing: now },
+        Status::Open { row: _, active: _ } => Status::Closed { closing: now },
+        Status::Closed { closing } => {
+            if again {
+                Status::Closed { closing }
+            } else {
+                Status::Closed { closing: now }
+            }
+        }
+    }
+}
+
+// "Auto precharge counts the bank closed at once."
+fn auto_closed(t: SpeedTable, period: Ps, end: Ps, x: Status) -> Status
+    requires { ⌜ Bounds t × FitPeriod period × FitStatus x ⌝ }
+    ensures { λ r. ⌜ r ≡ auto-closed t period end x ⌝ }
+{
+    match x {
+        Status::NotStarted => x,
+        Status::Open { row: _, active } => {
+            let closing = closing::closing_time(t, period, active, end);
+            Status::Closed { closing }
+        }
+        Status::Closed { closing: _ } => x,
+    }
+}
+
+fn activated(row: u16, n: Clock) -> Bank
+    ensures { λ r. ⌜ r ≡ activated row n ⌝ }
+{
+    let status = Status::Open { row, active: n };
+    let active = Event::On(n);
+    let stored = Event::Never;
+    Bank {
+        status,
+        active,
+        stored,
+    }
+}
+
+fn marked(x: bool, n: Clock, b: Bank) -> Bank
+    ensures { λ r. ⌜ r ≡ marked x n b ⌝ }
+{
+    let status = b.status;
+    let active = b.active;
+    let old = b.stored;
+    let stored = event_if(x, n, old);
+    Bank {
+        status,
+        active,
+        stored,
+    }
+}
+
+// Bank i after the command.
+fn bank_after(
+    k: Command,
+    t: SpeedTable,
+    period: Ps,
+    end: Ps,
+    again: bool,
+    r: Record,
+    n: Clock,
+    now: Ps,
+    i: u8,
+    b: Bank,
+) -> Bank
+    requires { ⌜ Bounds t × FitPeriod period × FitBank b ⌝ }
+    ensures { λ x. ⌜ x ≡ bank-after k t period end again r n now i b ⌝ }
+{
+    let code = layout::code_of(k);
+    let own = i == r.ba;
+    if (code == 3) & own {
+        return activated(r.addr, n);
+    }
+    let status = b.status;
+    let auto = layout::is_access(k) & layout::a10(r.addr);
+    if auto & own {
+        return with_status(auto_closed(t, period, end, status), b);
+    }
+    let covered = layout::covers(r.addr, r.ba, i);
+    if (code == 2) & covered {
+        return with_status(precharged(again, now, status), b);
+    }
+    b
+}
+
+// Only ACTIVE, PRECHARGE, and a READ or WRITE with auto precharge touch a bank.
+fn touches(k: Command, r: Record) -> bool
+    ensures { λ x. ⌜ x ≡ (is k Active || (asks-auto k r || is k Precharge)) ⌝ }
+{
+    let code = layout::code_of(k);
+    let auto = layout::is_access(k) & layout::a10(r.addr);
+    (code == 3) | (auto | (code == 2))
+}
+
+// The banks after the command.
+pub fn commanded(
+    k: Command,
+    t: SpeedTable,
+    period: Ps,
+    end: Ps,
+    again: bool,
+    r: Record,
+    n: Clock,
+    now: Ps,
+    all: [Bank; 4],
+) -> [Bank; 4]
+    requires { ⌜ Bounds t × FitPeriod period × BanksFit all ⌝ }
+    ensures { λ x. ⌜ x ≡ commanded k t period end again r n now all ⌝ }
+{
+    if touches(k, r) {
+        let a = bank_after(k, t, period, end, again, r, n, now, 0, all[0]);
+        let b = bank_after(k, t, period, end, again, r, n, now, 1, all[1]);
+        let c = bank_after(k, t, period, end, again, r, n, now, 2, all[2]);
+        let d = bank_after(k, t, period, end, again, r, n, now, 3, all[3]);
+        return [a, b, c, d];
+    }
+    all
+}
+
+// A byte was stored on clock n, where the beat stores one.
+pub fn mark_banks(w: Beat, n: Clock, all: [Bank; 4]) -> [Bank; 4]
+    ensures { λ x. ⌜ x ≡ mark-banks w n all ⌝ }
+{
+    let a = marked(w.stores_in(0), n, all[0]);
+    let b = marked(w.stores_in(1), n, all[1]);
+    let c = marked(w.stores_in(2), n, all[2]);
+    let d = marked(w.stores_in(3), n, all[3]);
+    [a, b, c, d]
+}
