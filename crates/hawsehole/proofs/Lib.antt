@@ -1,0 +1,5 @@
+pub mod Whole
+pub mod Demand3
+pub mod InTime
+pub mod Calls
+pub mod OneAnswer

@@ -1,0 +1,83 @@
+-- A whole trace from its bytes: verdicts 1 to 7, then record after record; verdict, beats and page (01, Verdicts). Definitions only.
+use Prim.Native.Nat.{ℕ, _+_, _*_}
+use mathlib.Core.Bool.{Bool, _&&_, _||_}
+use mathlib.Core.List.{List, [], _∷_}
+use lib.Dec.{leb, eqb}
+use lib.ListN.{length, take, drop}
+use Rattle.units.specs.Module.{page-bytes}
+use Rattle.units.specs.Time.{time}
+use Rattle.speed.specs.Table.{table-fits}
+use Rattle.layout.specs.declared.Header.{Header}
+use Rattle.layout.specs.declared.Record.{Record}
+use Rattle.layout.specs.Bytes.{header-of, records-of}
+use Rattle.device.specs.declared.Device.{Device}
+use Rattle.device.specs.declared.Setup.{Setup}
+use Rattle.device.specs.declared.Verdict.{Verdict}
+use Rattle.device.specs.declared.Verdict.the-variants.{Taken, Refused}
+use Rattle.device.specs.Numbers.{Rule, rule, first-broken}
+use Rattle.device.specs.State.{start}
+use Rattle.device.specs.Run.{Line, Run, run, page-after}
+use Rattle.device.specs.OneRecord.{period-fits}
+
+-- "length not 16 + 16 x count"
+abbrev pub whole : Header → ℕ → Bool
+whole h bytes = leb 16 bytes && eqb bytes (16 + 16 * h .count)
+
+-- "speed grade 8 (1 = -13E, 2 = -133)"
+abbrev pub grade-known : ℕ → Bool
+grade-known g = eqb g 1 || eqb g 2
+
+-- 5, 6 and 7, with a page of so many bytes
+unfoldable pub lent-rules : Setup → Header → ℕ → List Rule
+lent-rules u h lent =
+    rule 5 0 (eqb (h .zeros) 0) ∷ rule 6 0 (table-fits (u .table)) ∷ rule 7 0 (eqb lent page-bytes) ∷ []
+
+-- rows 1 to 7, for a trace of so many bytes with this header
+unfoldable pub whole-rules : Setup → Header → ℕ → ℕ → List Rule
+whole-rules u h bytes lent =
+    rule 1 0 (whole h bytes)
+    ∷ rule 2 0 (eqb (h .version) 1)
+    ∷ rule 3 0 (period-fits (time (h .period)))
+    ∷ rule 4 0 (grade-known (h .grade))
+    ∷ lent-rules u h lent
+
+-- verdict, reported record, a line for each record taken, and the page left
+pub record Judged : Type 0 where
+  pub verdict : Verdict
+  pub reported : ℕ
+  pub lines : List Line
+  pub page : List ℕ
+
+-- the state before the first record of a trace with this header
+abbrev pub start-of : Header → Device
+start-of h = start (time (h .period)) (h .bank) (h .row)
+
+-- the records of a trace
+abbrev pub records : List ℕ → List Record
+records trace = records-of (header-of trace .count) (drop 16 trace)
+
+abbrev pub run-of : Setup → List ℕ → Run
+run-of u trace = run u (start-of (header-of trace)) (records trace)
+
+-- the page of a trace's watched bank and row after these lines
+abbrev pub page-of : List ℕ → List Line → List ℕ → List ℕ
+page-of trace lines page = page-after (header-of trace .bank) (header-of trace .row) (records trace) lines page
+
+abbrev pub judged : List ℕ → List ℕ → Run → Judged
+judged trace page v =
+    record { verdict = v .verdict; reported = v .reported; lines = v .lines; page = page-of trace (v .lines) page }
+
+-- "1 to 7 leave page and state untouched, report record 0 and look at no record"
+abbrev pub refused : ℕ → ℕ → List ℕ → Judged
+refused n i page = record { verdict = Refused n i; reported = 0; lines = []; page = page }
+
+unfoldable pub judge : Setup → List ℕ → List ℕ → Judged
+judge u trace page =
+    elim (first-broken (whole-rules u (header-of trace) (length trace) (length page))) [
+      | Taken ↦ judged trace page (run-of u trace)
+      | Refused n i ↦ refused n i page
+    ]
+
+-- the page when the first k records were taken
+abbrev pub page-when : Setup → List ℕ → List ℕ → ℕ → List ℕ
+page-when u trace page k = page-of trace (take k (judge u trace page .lines)) page
