@@ -3,7 +3,7 @@
 // A case is a byte with its number, a byte with its count of records, the thirteen numbers of its table in four bytes each, and
 // its trace; host/bench_cases.py writes them.
 ghost use Prim.Native.Nat.{_≤_, _<_};
-use device::Setup;
+use rules::Setup;
 use speed::SpeedTable;
 use units::Clock;
 use units::Ps;

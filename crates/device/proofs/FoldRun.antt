@@ -4,19 +4,19 @@ use mathlib.Core.Path.{_≡_, refl, ap, sym, subst, _∙_}
 use mathlib.Core.List.{List, [], _∷_}
 use Rattle.layout.specs.declared.Record.{Record}
 use Rattle.page.specs.Store.{stored}
-use Rattle.device.specs.declared.Device.{Device}
-use Rattle.device.specs.declared.Setup.{Setup}
-use Rattle.device.specs.declared.Verdict.{Verdict}
-use Rattle.device.specs.declared.Verdict.the-variants.{Taken, Refused}
-use Rattle.device.specs.Rules.{ask}
-use Rattle.device.specs.After.{core-from, core-after, own-beat, next}
-use Rattle.device.specs.Run.{Line, Run, line, run, page-after}
-use Rattle.device.specs.Report.{put-line, lines-into, Left, left, ran, fold}
-use Rattle.device.proofs.Runs.{run-taken, run-refused}
+use Rattle.rules.specs.declared.State.{State}
+use Rattle.rules.specs.declared.Setup.{Setup}
+use Rattle.rules.specs.declared.Verdict.{Verdict}
+use Rattle.rules.specs.declared.Verdict.the-variants.{Taken, Refused}
+use Rattle.rules.specs.Rules.{ask}
+use Rattle.rules.specs.After.{core-from, core-after, own-beat, next}
+use Rattle.rules.specs.Run.{Line, Run, line, run, page-after}
+use Rattle.rules.specs.Report.{put-line, lines-into, Left, left, ran, fold}
+use Rattle.rules.proofs.Runs.{run-taken, run-refused}
 use Rattle.device.proofs.Folds.{fold-taken, fold-refused}
 
 -- what a run leaves of page and beats
-abbrev pub from-run : Device → List Record → List ℕ → List ℕ → Run → Left
+abbrev pub from-run : State → List Record → List ℕ → List ℕ → Run → Left
 from-run s rs page beats v =
     left (ran (v .verdict) (v .reported)) (page-after (s .core .bank) (s .core .row) rs (v .lines) page) (lines-into (s .core .number) (v .lines) beats)
 
@@ -26,13 +26,13 @@ no-lines bank row [] page = refl
 no-lines bank row (r ∷ rs) page = refl
 
 -- one record's line, and what follows it
-one-line : (u : Setup) (s : Device) (r : Record) (rs : List Record) (page beats : List ℕ) (v : Run)
+one-line : (u : Setup) (s : State) (r : Record) (rs : List Record) (page beats : List ℕ) (v : Run)
     → from-run (next u s r) rs (stored (s .core .bank) (s .core .row) (r .dq) (own-beat s r) page) (put-line (s .core .number) (line s r) beats) v
     ≡ from-run s (r ∷ rs) page beats (record { verdict = v .verdict; reported = v .reported; lines = line s r ∷ v .lines })
 unfolding next core-after core-from page-after lines-into
 one-line u s r rs page beats v = refl
 
-pub fold-run : (u : Setup) (s : Device) (rs : List Record) (page beats : List ℕ) → fold u s rs page beats ≡ from-run s rs page beats (run u s rs)
+pub fold-run : (u : Setup) (s : State) (rs : List Record) (page beats : List ℕ) → fold u s rs page beats ≡ from-run s rs page beats (run u s rs)
 unfolding fold run page-after lines-into
 fold-run u s [] page beats = refl
 fold-run u s (r ∷ rs) page beats =

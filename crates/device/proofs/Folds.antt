@@ -13,26 +13,26 @@ use Rattle.layout.specs.Widths.{Widths}
 use Rattle.layout.proofs.Widths.{record-fits}
 use Rattle.bursts.specs.declared.Beat.the-variants.{Quiet}
 use Rattle.page.specs.Store.{stored}
-use Rattle.device.specs.declared.Device.{Device}
-use Rattle.device.specs.declared.Setup.{Setup}
+use Rattle.rules.specs.declared.State.{State}
+use Rattle.rules.specs.declared.Setup.{Setup}
 use Rattle.device.specs.declared.Turn.{Turn}
-use Rattle.device.specs.declared.Verdict.{Verdict}
-use Rattle.device.specs.declared.Verdict.the-variants.{Taken, Refused}
-use Rattle.device.specs.State.{clock-of}
-use Rattle.device.specs.Rules.{ask}
-use Rattle.device.specs.After.{own-beat, core-from, core-after, next}
-use Rattle.device.specs.Run.{line}
-use Rattle.device.specs.Reach.{Able, Call}
-use Rattle.device.specs.Turn.{Turned, turned, turn-of}
-use Rattle.device.specs.Report.{put-line, Lined, lined, line-turn, left, ran, fold}
-use Rattle.device.proofs.Admitted.{bank-fits-at}
-use Rattle.device.proofs.Runs.{next-number}
-use Rattle.device.proofs.Stays.{stays}
+use Rattle.rules.specs.declared.Verdict.{Verdict}
+use Rattle.rules.specs.declared.Verdict.the-variants.{Taken, Refused}
+use Rattle.rules.specs.Parts.{clock-of}
+use Rattle.rules.specs.Rules.{ask}
+use Rattle.rules.specs.After.{own-beat, core-from, core-after, next}
+use Rattle.rules.specs.Run.{line}
+use Rattle.parts.specs.Reach.{Able, Call}
+use Rattle.device.specs.Turn.{Lined, lined, line-turn, Turned, turned, turn-of}
+use Rattle.rules.specs.Report.{put-line, left, ran, fold}
+use Rattle.rules.proofs.Admitted.{bank-fits-at}
+use Rattle.rules.proofs.Runs.{next-number}
+use Rattle.rules.proofs.Stays.{stays}
 use Rattle.device.proofs.Turns.{turn-taken, turn-refused}
 
 -- ── What a state from which records may be judged gives ──
 
-pub able-call : {u : Setup} {s : Device} {count : ℕ} → Able u s count → (r : Record) → Widths r → Call (u .table) (s .core) (s .banks) r
+pub able-call : {u : Setup} {s : State} {count : ℕ} → Able u s count → (r : Record) → Widths r → Call (u .table) (s .core) (s .banks) r
 able-call {s = s} a r w =
     record {
       table = a .table;
@@ -42,11 +42,11 @@ able-call {s = s} a r w =
       widths = w;
     }
 
-next-period : (u : Setup) (s : Device) (r : Record) → next u s r .core .period ≡ s .core .period
+next-period : (u : Setup) (s : State) (r : Record) → next u s r .core .period ≡ s .core .period
 unfolding next core-after core-from
 next-period u s r = refl
 
-pub able-next : (u : Setup) (s : Device) (count : ℕ) (r : Record) → Able u s (count + 1) → Widths r → ask u s r ≡ Taken → Able u (next u s r) count
+pub able-next : (u : Setup) (s : State) (count : ℕ) (r : Record) → Able u s (count + 1) → Widths r → ask u s r ≡ Taken → Able u (next u s r) count
 able-next u s count r a w p =
     record {
       table = a .table;
@@ -65,12 +65,12 @@ able-next u s count r a w p =
     }
 
 -- one record may be judged
-pub able-one : {u : Setup} {s : Device} {count : ℕ} → 0 < count → Able u s count → Able u s 1
+pub able-one : {u : Setup} {s : State} {count : ℕ} → 0 < count → Able u s count → Able u s 1
 able-one h a = record { table = a .table; period = a .period; state = a .state; room = omega (arith, a .room) }
 
 -- ── A turn that reports, by what it finds ──
 
-module _ (u : Setup) (s : Device) (r : Record) (page beats : List ℕ) where
+module _ (u : Setup) (s : State) (r : Record) (page beats : List ℕ) where
   abbrev pub taken-line : Lined
   taken-line =
       lined (record { verdict = Taken; beat = own-beat s r; next = next u s r }) (stored (s .core .bank) (s .core .row) (r .dq) (own-beat s r) page)
@@ -121,13 +121,13 @@ module _ (u : Setup) (s : Device) (r : Record) (page beats : List ℕ) where
 
 -- ── The fold ──
 
-pub fold-taken : (u : Setup) (s : Device) (r : Record) (rs : List Record) (page beats : List ℕ) → ask u s r ≡ Taken
+pub fold-taken : (u : Setup) (s : State) (r : Record) (rs : List Record) (page beats : List ℕ) → ask u s r ≡ Taken
     → fold u s (r ∷ rs) page beats
     ≡ fold u (next u s r) rs (stored (s .core .bank) (s .core .row) (r .dq) (own-beat s r) page) (put-line (s .core .number) (line s r) beats)
 unfolding fold
 fold-taken u s r rs page beats p = rw (p, fold)
 
-pub fold-refused : (u : Setup) (s : Device) (r : Record) (rs : List Record) (page beats : List ℕ) (n i : ℕ) → ask u s r ≡ Refused n i
+pub fold-refused : (u : Setup) (s : State) (r : Record) (rs : List Record) (page beats : List ℕ) (n i : ℕ) → ask u s r ≡ Refused n i
     → fold u s (r ∷ rs) page beats ≡ left (ran (Refused n i) (s .core .number)) page beats
 unfolding fold
 fold-refused u s r rs page beats n i p = rw (p, fold)
@@ -142,7 +142,7 @@ module _ (bytes : List ℕ) (count k : ℕ) (more : k < count) where
       ap (λ (x : ℕ). records-of x (drop (16 * k) bytes)) (m ∙ add-one (count - (k + 1)))
       ∙ ap (λ (l : List ℕ). record-of (take 16 (drop (16 * k) bytes)) ∷ records-of (count - (k + 1)) l) (drop-drop 16 (16 * k) bytes ∙ ap (λ (x : ℕ). drop x bytes) a)
 
-  module _ (u : Setup) (s : Device) (page beats part : List ℕ) (same : part ≡ take 16 (drop (16 * k) bytes)) (x : Lined)
+  module _ (u : Setup) (s : State) (page beats part : List ℕ) (same : part ≡ take 16 (drop (16 * k) bytes)) (x : Lined)
       (e : x ≡ line-turn u s (record-of part) page beats) where
     turn-at : fold u s (records-of (count - k) (drop (16 * k) bytes)) page beats
         ≡ fold u s (record-of part ∷ records-of (count - (k + 1)) (drop (16 * (k + 1)) bytes)) page beats

@@ -14,17 +14,17 @@ use Rattle.layout.specs.declared.Command.the-variants.{Active, Precharge}
 use Rattle.layout.specs.Commands.{command, is, covers}
 use Rattle.bursts.specs.declared.Beat.{Beat}
 use Rattle.bursts.specs.Bus.{bus-after, beat-on, stores-in}
-use Rattle.device.specs.declared.Bank.{Bank}
-use Rattle.device.specs.declared.Core.{Core}
-use Rattle.device.specs.declared.Device.{Device}
-use Rattle.device.specs.declared.Setup.{Setup}
-use Rattle.device.specs.declared.Taking.{Taking}
-use Rattle.device.specs.State.{clock-of, now, word}
-use Rattle.device.specs.StartUp.{begun}
-use Rattle.device.specs.Closing.{burst-end}
-use Rattle.device.specs.Banks.{bank-at}
-use Rattle.device.specs.Rules.{asks-auto}
-use Rattle.device.specs.After.{
+use Rattle.rules.specs.declared.Bank.{Bank}
+use Rattle.rules.specs.declared.Core.{Core}
+use Rattle.rules.specs.declared.State.{State}
+use Rattle.rules.specs.declared.Setup.{Setup}
+use Rattle.rules.specs.declared.Taking.{Taking}
+use Rattle.rules.specs.Parts.{clock-of, now, word}
+use Rattle.rules.specs.StartUp.{begun}
+use Rattle.rules.specs.Closing.{burst-end}
+use Rattle.rules.specs.Banks.{bank-at}
+use Rattle.rules.specs.Rules.{asks-auto}
+use Rattle.rules.specs.After.{
   beat,
   core-from,
   core-after,
@@ -42,7 +42,7 @@ use Rattle.device.specs.After.{
   commanded,
   mark-banks,
 }
-use Rattle.device.proofs.Lowest.{four}
+use Rattle.rules.proofs.Four.{four}
 
 each-four : (f : ℕ → Bank → Bank) (l : List Bank) → length l ≡ 4
     → each-bank f 0 l ≡ (f 0 (bank-at l 0) ∷ f 1 (bank-at l 1) ∷ f 2 (bank-at l 2) ∷ f 3 (bank-at l 3) ∷ [])
@@ -103,7 +103,7 @@ parts t c bs r k n moment word row =
           };
     }
 
-pub taking-parts : (u : Setup) (s : Device) (r : Record)
+pub taking-parts : (u : Setup) (s : State) (r : Record)
     → taking u s r ≡ parts (u .table) (s .core) (s .banks) r (command r) (clock-of (s .core) r) (now (s .core) r) (word (s .core)) (own-row s r)
 unfolding next core-after banks-after beat bus-after
 taking-parts u s r = refl

@@ -9,38 +9,38 @@ use lib.ListN.{length}
 use borrow.Author.Tests.{leb-true, eqb-true}
 use Rattle.speed.proofs.Bounds.{bounds}
 use Rattle.layout.specs.Bytes.{records-of}
-use Rattle.device.specs.declared.Device.{Device}
-use Rattle.device.specs.declared.Setup.{Setup}
-use Rattle.device.specs.declared.Verdict.{Verdict}
-use Rattle.device.specs.declared.Verdict.the-variants.{Taken, Refused}
-use Rattle.device.specs.Numbers.{Rule, rule, first-broken}
-use Rattle.device.specs.Fits.{number-max}
-use Rattle.device.specs.OneRecord.{state-rules}
-use Rattle.device.specs.Reach.{Able}
-use Rattle.device.specs.Report.{left, ran, fold, records-rules, records-call}
-use Rattle.device.proofs.Admitted.{admitted}
-use Rattle.device.proofs.Kept.{kept}
-use Rattle.device.proofs.Ladders.{then, first-join}
-use Rattle.device.proofs.OneRecord.{period-most}
+use Rattle.rules.specs.declared.State.{State}
+use Rattle.rules.specs.declared.Setup.{Setup}
+use Rattle.rules.specs.declared.Verdict.{Verdict}
+use Rattle.rules.specs.declared.Verdict.the-variants.{Taken, Refused}
+use Rattle.rules.specs.Numbers.{Rule, rule, first-broken}
+use Rattle.rules.specs.Fits.{number-max}
+use Rattle.rules.specs.OneRecord.{state-rules}
+use Rattle.parts.specs.Reach.{Able}
+use Rattle.rules.specs.Report.{left, ran, fold, records-rules, records-call}
+use Rattle.rules.proofs.Admitted.{admitted}
+use Rattle.rules.proofs.Kept.{kept}
+use Rattle.asking.proofs.Ladders.{then, first-join}
+use Rattle.rules.proofs.OneRecord.{period-most}
 
 -- after row 1
-pub records-ladder : (u : Setup) (s : Device) (bytes lent : ℕ) → eqb (bytes % 16) 0 ≡ true
+pub records-ladder : (u : Setup) (s : State) (bytes lent : ℕ) → eqb (bytes % 16) 0 ≡ true
     → first-broken (records-rules u s bytes lent)
     ≡ then (first-broken (state-rules u s lent)) (first-broken (rule 25 0 (leb (s .core .number + bytes / 16) number-max) ∷ []))
 unfolding records-rules
 records-ladder u s bytes lent h = rw (h, first-join)
 
-pub records-wrong : (u : Setup) (s : Device) (bytes lent : ℕ) → eqb (bytes % 16) 0 ≡ false → first-broken (records-rules u s bytes lent) ≡ Refused 1 0
+pub records-wrong : (u : Setup) (s : State) (bytes lent : ℕ) → eqb (bytes % 16) 0 ≡ false → first-broken (records-rules u s bytes lent) ≡ Refused 1 0
 unfolding records-rules
 records-wrong u s bytes lent h = rw h
 
 -- a state that 25 passes has a record number up to 2^41
-pub number-most : (u : Setup) (s : Device) (lent : ℕ) → first-broken (state-rules u s lent) ≡ Taken → s .core .number ≤ number-max
+pub number-most : (u : Setup) (s : State) (lent : ℕ) → first-broken (state-rules u s lent) ≡ Taken → s .core .number ≤ number-max
 unfolding state-rules
 number-most u s lent p = admitted s (kept 25 0 (state-rules u s lent) p) .core .number
 
 -- what a call that is entered may rely on
-pub record Entry (u : Setup) (s : Device) (bytes : ℕ) : Type 0 where
+pub record Entry (u : Setup) (s : State) (bytes : ℕ) : Type 0 where
   pub whole : bytes % 16 ≡ 0
   pub able : Able u s (bytes / 16)
 
@@ -48,7 +48,7 @@ then-both : (v w : Verdict) → then v w ≡ Taken → (v ≡ Taken) × (w ≡ T
 then-both Taken w h = (refl, h)
 then-both (Refused n i) w h = let z : _≡_ {A = ℕ} 0 1 = cc in absurd (omega arith)
 
-pub entry-of : (u : Setup) (s : Device) (bytes lent : ℕ) → first-broken (records-rules u s bytes lent) ≡ Taken → Entry u s bytes
+pub entry-of : (u : Setup) (s : State) (bytes lent : ℕ) → first-broken (records-rules u s bytes lent) ≡ Taken → Entry u s bytes
 unfolding records-rules state-rules
 entry-of u s bytes lent p =
     let first = kept 1 0 (records-rules u s bytes lent) p in
@@ -65,7 +65,7 @@ entry-of u s bytes lent p =
           };
     }
 
-module _ (u : Setup) (s : Device) (bytes page beats : List ℕ) where
+module _ (u : Setup) (s : State) (bytes page beats : List ℕ) where
   pub records-entered : first-broken (records-rules u s (length bytes) (length page)) ≡ Taken
       → records-call u s bytes page beats ≡ fold u s (records-of (length bytes / 16) bytes) page beats
   unfolding records-call

@@ -13,26 +13,26 @@ use Rattle.layout.proofs.ReadBack.{ReadWhole}
 use Rattle.layout.proofs.Widths.{record-fits}
 use Rattle.bursts.specs.declared.Beat.the-variants.{Quiet}
 use Rattle.page.specs.Store.{stored}
-use Rattle.device.specs.declared.Device.{Device}
-use Rattle.device.specs.declared.Setup.{Setup}
-use Rattle.device.specs.declared.Verdict.{Verdict}
-use Rattle.device.specs.declared.Verdict.the-variants.{Taken, Refused}
-use Rattle.device.specs.Numbers.{first-broken, number-of, interval-of}
-use Rattle.device.specs.Rules.{ask}
-use Rattle.device.specs.After.{own-beat, next}
+use Rattle.rules.specs.declared.State.{State}
+use Rattle.rules.specs.declared.Setup.{Setup}
+use Rattle.rules.specs.declared.Verdict.{Verdict}
+use Rattle.rules.specs.declared.Verdict.the-variants.{Taken, Refused}
+use Rattle.rules.specs.Numbers.{first-broken, number-of, interval-of}
+use Rattle.rules.specs.Rules.{ask}
+use Rattle.rules.specs.After.{own-beat, next}
 use Rattle.device.specs.Turn.{Turned, turned, turn-of}
-use Rattle.device.specs.OneRecord.{state-rules, entry-rules, Stepped, stepped, outcome, refused, judged, step}
-use Rattle.device.specs.Reach.{Call}
-use Rattle.device.proofs.Admitted.{admitted, bank-fits-at}
-use Rattle.device.proofs.Kept.{kept}
-use Rattle.device.proofs.OneRecord.{judged-taken, judged-refused, step-entered, entry-refused, period-most}
+use Rattle.rules.specs.OneRecord.{state-rules, entry-rules, Stepped, stepped, answer-of, refused, judged, step}
+use Rattle.parts.specs.Reach.{Call}
+use Rattle.rules.proofs.Admitted.{admitted, bank-fits-at}
+use Rattle.rules.proofs.Kept.{kept}
+use Rattle.rules.proofs.OneRecord.{judged-taken, judged-refused, step-entered, entry-refused, period-most}
 
 -- the one-record call's part after its entry, from the turn
 abbrev pub from-turn : ℕ → Turned → Stepped
 from-turn k x =
-    stepped (outcome (number-of (x .turn .verdict)) (interval-of (x .turn .verdict)) k (x .turn .beat) (x .turn .next)) (x .page)
+    stepped (answer-of (number-of (x .turn .verdict)) (interval-of (x .turn .verdict)) k (x .turn .beat)) (x .turn .next) (x .page)
 
-module _ (u : Setup) (s : Device) (r : Record) (page : List ℕ) where
+module _ (u : Setup) (s : State) (r : Record) (page : List ℕ) where
   pub turn-taken : ask u s r ≡ Taken
       → turn-of u s r page
       ≡ turned (record { verdict = Taken; beat = own-beat s r; next = next u s r }) (stored (s .core .bank) (s .core .row) (r .dq) (own-beat s r) page)
@@ -52,7 +52,7 @@ module _ (u : Setup) (s : Device) (r : Record) (page : List ℕ) where
 
 -- ── The call by what is found ──
 
-module _ (u : Setup) (s : Device) (bytes page : List ℕ) where
+module _ (u : Setup) (s : State) (bytes page : List ℕ) where
   pub step-wrong : eqb (length bytes) 16 ≡ false → step u s bytes page ≡ refused 1 0 0 s page
   unfolding entry-rules
   step-wrong h = entry-refused u s bytes page 1 0 (rw h)
@@ -73,7 +73,7 @@ module _ (u : Setup) (s : Device) (bytes page : List ℕ) where
         ∙ ap (λ (x : Record). from-turn (s .core .number) (turn-of u s x page)) (sym e)
 
 -- what a call that is entered may rely on
-pub call-of : (u : Setup) (s : Device) (lent : ℕ) (r : Record) → first-broken (state-rules u s lent) ≡ Taken → Widths r → Call (u .table) (s .core) (s .banks) r
+pub call-of : (u : Setup) (s : State) (lent : ℕ) (r : Record) → first-broken (state-rules u s lent) ≡ Taken → Widths r → Call (u .table) (s .core) (s .banks) r
 unfolding state-rules
 call-of u s lent r p w =
     let a = admitted s (kept 25 0 (state-rules u s lent) p) in

@@ -3,29 +3,31 @@ ghost use mathlib.Core.Path.{_≡_};
 ghost use Prim.Native.Nat.{_≤_, _*_, _+_};
 ghost use lib.ListN.{length, set};
 ghost use Rattle.layout.specs.Bytes.{record-of, records-of};
-ghost use Rattle.device.specs.Numbers.{first-broken};
-ghost use Rattle.device.specs.State.{start};
-ghost use Rattle.device.specs.Fits.{number-max};
-ghost use Rattle.device.specs.Reach.{Able};
-ghost use Rattle.device.specs.Report.{beat-word, cells-word, put-line, lined, line-turn, left, fold, records-rules, records-call};
-use crate::Bank;
-use crate::Core;
+ghost use Rattle.rules.specs.Numbers.{first-broken};
+ghost use Rattle.rules.specs.Parts.{start};
+ghost use Rattle.rules.specs.Fits.{number-max};
+ghost use Rattle.parts.specs.Reach.{Able};
+ghost use Rattle.rules.specs.Report.{beat-word, cells-word, put-line, left, fold, records-rules, records-call};
+ghost use Rattle.device.specs.Turn.{lined, line-turn};
 use crate::Device;
-use crate::Ran;
-use crate::Refreshes;
-use crate::Register;
-use crate::Setup;
-use crate::StartUp;
-use crate::Status;
 use crate::Turn;
-use crate::Verdict;
 use crate::call;
-use crate::rules;
 use crate::single;
 use bursts::Beat;
 use bursts::Bus;
 use bursts::Cells;
 use layout::RecordBytes;
+use parts::time;
+use rules::Bank;
+use rules::Core;
+use rules::Ran;
+use rules::Refreshes;
+use rules::Register;
+use rules::Setup;
+use rules::StartUp;
+use rules::State;
+use rules::Status;
+use rules::Verdict;
 use units::Clock;
 use units::Event;
 use units::Ps;
@@ -74,12 +76,12 @@ fn report(beats: &mut [u64], k: u64, beat: Beat, n: Clock)
 }
 
 // The turn of one record that is read from its bytes, and reported where it is taken.
-fn line_turn(u: Setup, s: Device, part: &[u8], page: &mut [u8], beats: &mut [u64]) -> Turn
+fn line_turn(u: Setup, s: State, part: &[u8], page: &mut [u8], beats: &mut [u64]) -> Turn
     requires { ⌜ (length (now part) ≡ 16) × Able u s 1 ⌝ }
     ensures { λ x. ⌜ lined x (now (page .exit)) (now (beats .exit)) ≡ line-turn u s (record-of (now (part .entry))) (now (page .entry)) (now (beats .entry)) ⌝ }
 {
     let RecordBytes::Whole(r) = layout::read_record(part) else {
-        let verdict = rules::refused(1);
+        let verdict = Verdict::refused(1);
         let beat = Beat::Quiet;
         return Turn {
             verdict,
@@ -94,14 +96,14 @@ fn line_turn(u: Setup, s: Device, part: &[u8], page: &mut [u8], beats: &mut [u64
     let Verdict::Taken = v else {
         return turn;
     };
-    let n = call::clock_of(last, r.skipped);
+    let n = time::clock_of(last, r.skipped);
     let beat = turn.beat;
     report(beats, core.number, beat, n);
     turn
 }
 
 // `count` records from a state, each in its turn, up to the first that is refused.
-fn fold(u: Setup, s: Device, bytes: &[u8], count: usize, page: &mut [u8], beats: &mut [u64]) -> Ran
+fn fold(u: Setup, s: State, bytes: &[u8], count: usize, page: &mut [u8], beats: &mut [u64]) -> Ran
     requires { ⌜ (length (now bytes) ≡ 16 * count) × Able u s count ⌝ }
     ensures { λ x. ⌜ left x (now (page .exit)) (now (beats .exit)) ≡ fold u s (records-of count (now (bytes .entry))) (now (page .entry)) (now (beats .entry)) ⌝ }
 {
@@ -131,11 +133,11 @@ fn fold(u: Setup, s: Device, bytes: &[u8], count: usize, page: &mut [u8], beats:
 }
 
 // What is tried before the first record: whole records, then 3, 6, 7, 25, and room for their numbers.
-fn records_verdict(u: Setup, s: Device, bytes: usize, lent: usize) -> Verdict
+fn records_verdict(u: Setup, s: State, bytes: usize, lent: usize) -> Verdict
     ensures { λ x. ⌜ x ≡ first-broken (records-rules u s bytes lent) ⌝ }
 {
     if bytes % 16 != 0 {
-        return rules::refused(1);
+        return Verdict::refused(1);
     }
     let v = single::state_verdict(u, s, lent);
     let Verdict::Taken = v else {
@@ -145,13 +147,13 @@ fn records_verdict(u: Setup, s: Device, bytes: usize, lent: usize) -> Verdict
     if core.number + (bytes / 16) as u64 <= NUMBER_MAX {
         return Verdict::Taken;
     }
-    rules::refused(25)
+    Verdict::refused(25)
 }
 
 impl Device {
     // Before the first record: the trace's period, and the watched bank and row.
     pub fn start(period: Ps, bank: u8, row: u16) -> Device
-        ensures { λ r. ⌜ r ≡ start period bank row ⌝ }
+        ensures { λ r. ⌜ r .0 ≡ start period bank row ⌝ }
     {
         let status = Status::NotStarted;
         let never = Event::Never;
@@ -178,22 +180,24 @@ impl Device {
             bus,
         };
         let banks = [b, b, b, b];
-        Device { core, banks }
+        let state = State { core, banks };
+        Device(state)
     }
 
     // The records of a lent slice from this state, each as the one-record call would judge it. What the state may hold is
     // asked once, and not again for each record: a state that the judge itself leaves is always admitted.
     pub fn records(self, setup: Setup, bytes: &[u8], page: &mut [u8], beats: &mut [u64]) -> Ran
-        ensures { λ r. ⌜ left r (now (page .exit)) (now (beats .exit)) ≡ records-call setup self (now (bytes .entry)) (now (page .entry)) (now (beats .entry)) ⌝ }
+        ensures { λ r. ⌜ left r (now (page .exit)) (now (beats .exit)) ≡ records-call setup (self .0) (now (bytes .entry)) (now (page .entry)) (now (beats .entry)) ⌝ }
     {
+        let s = self.0;
         let count = bytes.len() / 16;
-        let v = records_verdict(setup, self, bytes.len(), page.len());
+        let v = records_verdict(setup, s, bytes.len(), page.len());
         let Verdict::Taken = v else {
             return Ran {
                 verdict: v,
                 reported: 0,
             };
         };
-        fold(setup, self, bytes, count, page, beats)
+        fold(setup, s, bytes, count, page, beats)
     }
 }

@@ -1,79 +1,53 @@
 // The one-record call: what it tries before the record is looked at, and its answer.
 ghost use mathlib.Core.Path.{_≡_};
-ghost use Rattle.device.specs.Numbers.{first-broken, number-of, interval-of};
-ghost use Rattle.device.specs.OneRecord.{state-rules, outcome, stepped, step};
-use crate::Answer;
+ghost use Rattle.rules.specs.Numbers.{first-broken, number-of, interval-of};
+ghost use Rattle.rules.specs.OneRecord.{state-rules, answer-of, stepped, step};
 use crate::Device;
 use crate::Outcome;
-use crate::Setup;
 use crate::Turn;
-use crate::Verdict;
-use crate::admitting;
 use crate::call;
-use crate::rules;
 use bursts::Beat;
 use layout::RecordBytes;
+use parts::admitting;
+use rules::Answer;
+use rules::Setup;
+use rules::State;
+use rules::Verdict;
 use units::PAGE_BYTES;
-use units::Ps;
 
 // 3, 6, 7 and 25.
-pub fn state_verdict(u: Setup, s: Device, lent: usize) -> Verdict
+pub fn state_verdict(u: Setup, s: State, lent: usize) -> Verdict
     ensures { λ x. ⌜ x ≡ first-broken (state-rules u s lent) ⌝ }
 {
     let core = s.core;
     let t = u.table;
-    if crate::period_fits(core.period) {
+    if rules::period_fits(core.period) {
         if t.fits() {
             if lent == PAGE_BYTES {
                 if admitting::fits(s) {
                     return Verdict::Taken;
                 }
-                return rules::refused(25);
+                return Verdict::refused(25);
             }
-            return rules::refused(7);
+            return Verdict::refused(7);
         }
-        return rules::refused(6);
+        return Verdict::refused(6);
     }
-    rules::refused(3)
+    Verdict::refused(3)
 }
 
-// The paper's number of a verdict: "a taken record 0".
-pub fn number_of(v: Verdict) -> u8
-    ensures { λ r. ⌜ r ≡ number-of v ⌝ }
+fn answered(v: Verdict, reported: u64, beat: Beat, s: State) -> Outcome
+    ensures { λ r. ⌜ r ≡ record { answer = answer-of (number-of v) (interval-of v) reported beat; next = record { 0 = s } } ⌝ }
 {
-    match v {
-        Verdict::Taken => 0,
-        Verdict::Refused {
-            number,
-            interval: _,
-        } => number,
-    }
-}
-
-// "The interval is 0 unless the number is 16."
-pub fn interval_of(v: Verdict) -> u8
-    ensures { λ r. ⌜ r ≡ interval-of v ⌝ }
-{
-    match v {
-        Verdict::Taken => 0,
-        Verdict::Refused {
-            number: _,
-            interval,
-        } => interval,
-    }
-}
-
-fn answered(v: Verdict, reported: u64, beat: Beat, next: Device) -> Outcome
-    ensures { λ r. ⌜ r ≡ outcome (number-of v) (interval-of v) reported beat next ⌝ }
-{
-    let number = number_of(v);
-    let interval = interval_of(v);
+    let number = v.number();
+    let interval = v.interval();
     let answer = Answer {
         number,
         interval,
         reported,
         beat,
     };
+    let next = Device(s);
     Outcome { answer, next }
 }
 
@@ -81,19 +55,20 @@ impl Device {
     // One record: the state goes in, and the answer comes back beside the next state. The rules are tried in document 01's
     // order; a record that is not taken leaves state and page as they were.
     pub fn record(self, setup: Setup, bytes: &[u8], page: &mut [u8]) -> Outcome
-        ensures { λ r. ⌜ stepped r (now (page .exit)) ≡ step setup self (now (bytes .entry)) (now (page .entry)) ⌝ }
+        ensures { λ r. ⌜ stepped (r .answer) (r .next .0) (now (page .exit)) ≡ step setup (self .0) (now (bytes .entry)) (now (page .entry)) ⌝ }
     {
+        let s = self.0;
         let quiet = Beat::Quiet;
         let RecordBytes::Whole(r) = layout::read_record(bytes) else {
-            let v = rules::refused(1);
-            return answered(v, 0, quiet, self);
+            let v = Verdict::refused(1);
+            return answered(v, 0, quiet, s);
         };
-        let v = state_verdict(setup, self, page.len());
+        let v = state_verdict(setup, s, page.len());
         let Verdict::Taken = v else {
-            return answered(v, 0, quiet, self);
+            return answered(v, 0, quiet, s);
         };
-        let core = self.core;
-        let turn = call::turn(setup, self, r, page);
+        let core = s.core;
+        let turn = call::turn(setup, s, r, page);
         let verdict = turn.verdict;
         let beat = turn.beat;
         let next = turn.next;

@@ -14,15 +14,15 @@ use Rattle.layout.specs.declared.Header.{Header}
 use Rattle.layout.specs.Bytes.{header-of, records-of}
 use Rattle.layout.proofs.ReadBack.{ReadHead}
 use Rattle.layout.proofs.Widths.{header-fits}
-use Rattle.device.specs.declared.Setup.{Setup}
-use Rattle.device.specs.declared.Verdict.{Verdict}
-use Rattle.device.specs.declared.Verdict.the-variants.{Taken, Refused}
-use Rattle.device.specs.Numbers.{Rule, rule, first-broken}
-use Rattle.device.specs.Run.{run}
-use Rattle.device.specs.OneRecord.{state-rules}
-use Rattle.device.specs.Report.{lines-into, left, ran, fold, records-rules, records-call}
-use Rattle.device.proofs.Admitted.{fits-admitted}
-use Rattle.device.proofs.Kept.{kept}
+use Rattle.rules.specs.declared.Setup.{Setup}
+use Rattle.rules.specs.declared.Verdict.{Verdict}
+use Rattle.rules.specs.declared.Verdict.the-variants.{Taken, Refused}
+use Rattle.rules.specs.Numbers.{Rule, rule, first-broken}
+use Rattle.rules.specs.Run.{run}
+use Rattle.rules.specs.OneRecord.{state-rules}
+use Rattle.rules.specs.Report.{lines-into, left, ran, fold, records-rules, records-call}
+use Rattle.rules.proofs.Admitted.{fits-admitted}
+use Rattle.rules.proofs.Kept.{kept}
 use Rattle.device.proofs.Starts.{records-entered}
 use Rattle.device.proofs.FoldRun.{fold-run}
 use Rattle.hawsehole.specs.Trace.{whole, lent-rules, whole-rules, start-of, records, run-of, judged, judge}

@@ -9,14 +9,14 @@ use lib.Seq.{take-append-le, take-at}
 use Rattle.speed.specs.declared.SpeedTable.{SpeedTable}
 use Rattle.speed.specs.Table.{table-fits}
 use Rattle.layout.specs.Bytes.{header-of}
-use Rattle.device.specs.declared.Setup.{Setup}
-use Rattle.device.specs.declared.Verdict.{Verdict}
-use Rattle.device.specs.declared.Verdict.the-variants.{Taken, Refused}
-use Rattle.device.specs.Numbers.{first-broken}
-use Rattle.device.specs.Run.{Line, Run}
-use Rattle.device.specs.Harder.{NowhereHarder}
-use Rattle.device.proofs.Easier.{setup}
-use Rattle.device.proofs.Demand3.{Follows, demand-3}
+use Rattle.rules.specs.declared.Setup.{Setup}
+use Rattle.rules.specs.declared.Verdict.{Verdict}
+use Rattle.rules.specs.declared.Verdict.the-variants.{Taken, Refused}
+use Rattle.rules.specs.Numbers.{first-broken}
+use Rattle.rules.specs.Run.{Line, Run}
+use Rattle.rules.specs.Harder.{NowhereHarder}
+use Rattle.rules.proofs.Easier.{setup}
+use Rattle.rules.proofs.Demand3.{Follows, demand-3}
 use Rattle.hawsehole.specs.Trace.{Judged, lent-rules, whole-rules, lent-rules, start-of, records, run-of, page-of, judged, refused, judge, page-when}
 use Rattle.hawsehole.proofs.Whole.{entry, judge-entered, judge-refused, page-is}
 

@@ -8,13 +8,13 @@ use lib.Dec.{eqb}
 use lib.ListN.{length, drop}
 use Rattle.layout.specs.Bytes.{header-of}
 use Rattle.layout.proofs.Widths.{records-fit, records-length, header-fits}
-use Rattle.device.specs.declared.Setup.{Setup}
-use Rattle.device.specs.declared.Verdict.{Verdict}
-use Rattle.device.specs.declared.Verdict.the-variants.{Taken, Refused}
-use Rattle.device.specs.Admitted.{Admitted}
-use Rattle.device.proofs.Kept.{all-numbers, broken-number}
-use Rattle.device.proofs.InTime.{Other, never}
-use Rattle.device.proofs.Stays.{start-admitted}
+use Rattle.rules.specs.declared.Setup.{Setup}
+use Rattle.rules.specs.declared.Verdict.{Verdict}
+use Rattle.rules.specs.declared.Verdict.the-variants.{Taken, Refused}
+use Rattle.rules.specs.Admitted.{Admitted}
+use Rattle.rules.proofs.Kept.{all-numbers, broken-number}
+use Rattle.rules.proofs.InTime.{Other, never}
+use Rattle.rules.proofs.Stays.{start-admitted}
 use Rattle.hawsehole.specs.Trace.{whole-rules, lent-rules, start-of, records, judge}
 use Rattle.hawsehole.proofs.Whole.{entry, by-entry}
 

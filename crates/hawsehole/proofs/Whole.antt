@@ -6,12 +6,12 @@ use mathlib.Core.List.{List, [], _∷_}
 use lib.ListN.{length}
 use Rattle.layout.specs.declared.Record.{Record}
 use Rattle.layout.specs.Bytes.{header-of}
-use Rattle.device.specs.declared.Setup.{Setup}
-use Rattle.device.specs.declared.Verdict.{Verdict}
-use Rattle.device.specs.declared.Verdict.the-variants.{Taken, Refused}
-use Rattle.device.specs.Numbers.{first-broken}
-use Rattle.device.specs.Run.{Line, page-after}
-use Rattle.device.proofs.Runs.{reports}
+use Rattle.rules.specs.declared.Setup.{Setup}
+use Rattle.rules.specs.declared.Verdict.{Verdict}
+use Rattle.rules.specs.declared.Verdict.the-variants.{Taken, Refused}
+use Rattle.rules.specs.Numbers.{first-broken}
+use Rattle.rules.specs.Run.{Line, page-after}
+use Rattle.rules.proofs.Runs.{reports}
 use Rattle.hawsehole.specs.Trace.{Judged, whole-rules, start-of, records, run-of, page-of, judged, refused, judge, page-when}
 
 -- what is found before the first record

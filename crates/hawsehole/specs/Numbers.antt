@@ -2,10 +2,10 @@
 use Prim.Native.Nat.{ℕ, _+_, _*_, _%_, _^_}
 use mathlib.Core.List.{List, []}
 use Rattle.speed.specs.declared.SpeedTable.{SpeedTable}
-use Rattle.device.specs.declared.Setup.{Setup}
-use Rattle.device.specs.declared.Ran.{Ran}
-use Rattle.device.specs.Numbers.{number-of, interval-of}
-use Rattle.device.specs.Report.{Left, left, ran, lines-into}
+use Rattle.rules.specs.declared.Setup.{Setup}
+use Rattle.rules.specs.declared.Ran.{Ran}
+use Rattle.rules.specs.Numbers.{number-of, interval-of}
+use Rattle.rules.specs.Report.{Left, left, ran, lines-into}
 use Rattle.hawsehole.specs.Trace.{judge}
 
 -- what the whole-trace judge leaves: the verdict with the record it reports, the page, and the beats in a lent slice

@@ -13,13 +13,13 @@ use Rattle.bursts.specs.declared.Beat.the-variants.{Quiet, Stores}
 use Rattle.bursts.specs.Burst.{has-beat, write-beat, read-beat, finished}
 use Rattle.bursts.specs.Bus.{masks-on, masks-after, reads-from, bus-after, beat-on, bursts-finished, driven, bus-clear}
 use Rattle.page.specs.Store.{put-lanes, stored}
-use Rattle.device.specs.declared.Setup.{Setup}
-use Rattle.device.specs.declared.Verdict.the-variants.{Taken}
-use Rattle.device.specs.StartUp.{allowed}
-use Rattle.device.specs.Banks.{banks-found}
-use Rattle.device.specs.Minima.{of-closing, of-any, of-active, of-access, of-precharged, of-precharge, of-idle, events, minima}
-use Rattle.device.specs.Rules.{every-rules, place-rules, minimum-rules, mode-rules, bus-rules, command-rules, rules, ask}
-use Rattle.device.specs.After.{
+use Rattle.rules.specs.declared.Setup.{Setup}
+use Rattle.rules.specs.declared.Verdict.the-variants.{Taken}
+use Rattle.rules.specs.StartUp.{allowed}
+use Rattle.rules.specs.Banks.{banks-found}
+use Rattle.rules.specs.Minima.{of-closing, of-any, of-active, of-access, of-precharged, of-precharge, of-idle, events, minima}
+use Rattle.rules.specs.Rules.{every-rules, place-rules, minimum-rules, mode-rules, bus-rules, command-rules, rules, ask}
+use Rattle.rules.specs.After.{
   startup-after,
   beat,
   core-from,
@@ -30,7 +30,7 @@ use Rattle.device.specs.After.{
   banks-after,
   next,
 }
-use Rattle.device.specs.Run.{Line, run, page-after}
+use Rattle.rules.specs.Run.{Line, run, page-after}
 use Rattle.hawsehole.specs.Trace.{Judged, judge, whole-rules, lent-rules}
 
 -- "Header: period 7,500, count 8, grade 2, bank 1, row 7", and the eight records; the WRITE's and the NOP's data as given

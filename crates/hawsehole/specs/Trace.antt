@@ -10,14 +10,14 @@ use Rattle.speed.specs.Table.{table-fits}
 use Rattle.layout.specs.declared.Header.{Header}
 use Rattle.layout.specs.declared.Record.{Record}
 use Rattle.layout.specs.Bytes.{header-of, records-of}
-use Rattle.device.specs.declared.Device.{Device}
-use Rattle.device.specs.declared.Setup.{Setup}
-use Rattle.device.specs.declared.Verdict.{Verdict}
-use Rattle.device.specs.declared.Verdict.the-variants.{Taken, Refused}
-use Rattle.device.specs.Numbers.{Rule, rule, first-broken}
-use Rattle.device.specs.State.{start}
-use Rattle.device.specs.Run.{Line, Run, run, page-after}
-use Rattle.device.specs.OneRecord.{period-fits}
+use Rattle.rules.specs.declared.State.{State}
+use Rattle.rules.specs.declared.Setup.{Setup}
+use Rattle.rules.specs.declared.Verdict.{Verdict}
+use Rattle.rules.specs.declared.Verdict.the-variants.{Taken, Refused}
+use Rattle.rules.specs.Numbers.{Rule, rule, first-broken}
+use Rattle.rules.specs.Parts.{start}
+use Rattle.rules.specs.Run.{Line, Run, run, page-after}
+use Rattle.rules.specs.OneRecord.{period-fits}
 
 -- "length not 16 + 16 x count"
 abbrev pub whole : Header → ℕ → Bool
@@ -49,7 +49,7 @@ pub record Judged : Type 0 where
   pub page : List ℕ
 
 -- the state before the first record of a trace with this header
-abbrev pub start-of : Header → Device
+abbrev pub start-of : Header → State
 start-of h = start (time (h .period)) (h .bank) (h .row)
 
 -- the records of a trace

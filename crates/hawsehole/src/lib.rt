@@ -1,29 +1,20 @@
 // The whole-trace judge.
 ghost use mathlib.Core.Path.{_≡_};
-ghost use Rattle.device.specs.Numbers.{first-broken, number-of, interval-of};
-ghost use Rattle.device.specs.Report.{left};
+ghost use Rattle.rules.specs.Numbers.{first-broken};
+ghost use Rattle.rules.specs.Report.{left};
 ghost use Rattle.hawsehole.specs.Trace.{lent-rules, whole-rules};
 ghost use Rattle.speed.specs.Table.{table};
 ghost use Rattle.hawsehole.specs.Numbers.{whole-call, answer-word, answered, judge-beats, alone, judge-alone};
 use device::Device;
-use device::Ran;
-use device::Setup;
-use device::Verdict;
 use layout::Header;
 use layout::HeaderBytes;
+use rules::Ran;
+use rules::Setup;
+use rules::Verdict;
 use speed::SpeedTable;
 use units::Clock;
 use units::PAGE_BYTES;
 use units::Ps;
-
-fn refused(number: u8) -> Verdict
-    ensures { λ r. ⌜ r ≡ Verdict.Refused number 0 ⌝ }
-{
-    Verdict::Refused {
-        number,
-        interval: 0,
-    }
-}
 
 // 5, 6 and 7.
 fn lent_verdict(u: Setup, h: Header, lent: usize) -> Verdict
@@ -31,15 +22,15 @@ fn lent_verdict(u: Setup, h: Header, lent: usize) -> Verdict
 {
     let t = u.table;
     if h.zeros != 0 {
-        return refused(5);
+        return Verdict::refused(5);
     }
     if t.fits() {
         if lent == PAGE_BYTES {
             return Verdict::Taken;
         }
-        return refused(7);
+        return Verdict::refused(7);
     }
-    refused(6)
+    Verdict::refused(6)
 }
 
 // 1 to 7, of a trace with this header.
@@ -48,18 +39,18 @@ pub fn whole_verdict(u: Setup, h: Header, bytes: usize, lent: usize) -> Verdict
 {
     let count = h.count as usize;
     if bytes != 16 + 16 * count {
-        return refused(1);
+        return Verdict::refused(1);
     }
     if h.version != 1 {
-        return refused(2);
+        return Verdict::refused(2);
     }
-    if device::period_fits(Ps(h.period as u64)) {
+    if rules::period_fits(Ps(h.period as u64)) {
         if (h.grade == 1) | (h.grade == 2) {
             return lent_verdict(u, h, lent);
         }
-        return refused(4);
+        return Verdict::refused(4);
     }
-    refused(3)
+    Verdict::refused(3)
 }
 
 // A whole trace: 1 to 7, then its records in turn. The page holds the stores of the records taken, `beats` two words for each
@@ -68,7 +59,7 @@ pub fn judge(u: Setup, trace: &[u8], page: &mut [u8], beats: &mut [u64]) -> Ran
     ensures { λ r. ⌜ left r (now (page .exit)) (now (beats .exit)) ≡ whole-call u (now (trace .entry)) (now (page .entry)) (now (beats .entry)) ⌝ }
 {
     let HeaderBytes::Headed(h) = layout::read_header(trace) else {
-        let verdict = refused(1);
+        let verdict = Verdict::refused(1);
         return Ran {
             verdict,
             reported: 0,
@@ -90,33 +81,9 @@ pub fn answer_word(r: Ran) -> u64
     ensures { λ x. ⌜ x ≡ answer-word r ⌝ }
 {
     let v = r.verdict;
-    let number = number_of(v) as u64;
-    let interval = interval_of(v) as u64;
+    let number = v.number() as u64;
+    let interval = v.interval() as u64;
     number + interval * 256 + r.reported % 16_777_216 * 65_536
-}
-
-fn number_of(v: Verdict) -> u8
-    ensures { λ r. ⌜ r ≡ number-of v ⌝ }
-{
-    match v {
-        Verdict::Taken => 0,
-        Verdict::Refused {
-            number,
-            interval: _,
-        } => number,
-    }
-}
-
-fn interval_of(v: Verdict) -> u8
-    ensures { λ r. ⌜ r ≡ interval-of v ⌝ }
-{
-    match v {
-        Verdict::Taken => 0,
-        Verdict::Refused {
-            number: _,
-            interval,
-        } => interval,
-    }
 }
 
 // The whole-trace judge for C, over byte slices and the thirteen numbers of the speed table in document 01's order.

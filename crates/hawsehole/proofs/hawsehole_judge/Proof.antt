@@ -7,27 +7,21 @@ use Rattle.hawsehole.proofs.hawsehole_judge.Reads as reads
 use Rattle.hawsehole.proofs.hawsehole_judge.Lts as lts
 use Rattle.hawsehole.proofs.hawsehole_judge_beats.Reads as hawsehole-judge-beats-reads
 
--- src/lib.rt:189:9
 sub-hawsehole-judge-beats : tie.Need-sub-hawsehole-judge-beats
 sub-hawsehole-judge-beats c = search needs
 
--- src/lib.rt:189:9
 part-none-start : tie.Need-part-none-start
 part-none-start c = search needs
 
--- src/lib.rt:189:9
 part-none-end : tie.Need-part-none-end
 part-none-end c = search needs
 
--- src/lib.rt:186:5
 hawsehole-judge-beats-requires : tie.Need-hawsehole-judge-beats-requires
 hawsehole-judge-beats-requires c κs = search needs
 
--- src/lib.rt:165:1
 same-length : tie.Need-same-length
 same-length c = search needs
 
--- src/lib.rt:165:1
 returns : tie.Need-returns
 unfolding judge-alone
 returns c = ap (λ (a : Answered). alone (a .word) (a .page)) (c .before .before .before .hawsehole-judge-beats .ensures)

@@ -13,78 +13,61 @@ use Rattle.hawsehole.proofs.judge.Reads as reads
 use Rattle.hawsehole.proofs.judge.Lts as lts
 use Rattle.device.proofs.Device.records.Reads as records-reads
 use Rattle.device.proofs.Device.start.Reads as start-reads
-use Rattle.hawsehole.proofs.refused.Reads as refused-reads
+use Rattle.rules.proofs.Verdict.refused.Reads as refused-reads
 use Rattle.hawsehole.proofs.whole_verdict.Reads as whole-verdict-reads
 use Rattle.layout.proofs.read_header.Reads as read-header-reads
 
--- src/lib.rt:69:34
 read-header-requires : tie.Need-read-header-requires
 read-header-requires c κs = search needs
 
--- src/lib.rt:69:29
 enum-known-h : tie.Need-enum-known-h
 enum-known-h c = search needs
 
--- src/lib.rt:70:13
 enum-told : tie.Need-enum-told
 enum-told c = search needs
 
--- src/lib.rt:70:13
 refused-requires : tie.Need-refused-requires
 refused-requires c κs = search needs
 
--- src/lib.rt:71:9
 returns : tie.Need-returns
 returns c = rw (c .refused .ensures) (sym (call-refused (c .before .before .before .before .before .before .before .args .u) (c .before .before .before .before .before .before .before .args .trace .now) (c .before .before .before .before .before .before .before .args .page .now) (c .before .before .before .before .before .before .before .args .beats .now) _ _ (too-short (c .before .before .before .before .before .before .before .args .u) (c .before .before .before .before .before .before .before .args .trace .now) (c .before .before .before .before .before .before .before .args .page .now) (short _ (sym (c .before .before .before .read-header .ensures) ∙ c .before .enum-told .given .1)))))
 
--- src/lib.rt:76:9
 whole-verdict-requires : tie.Need-whole-verdict-requires
 whole-verdict-requires c κs = search needs
 
 enum-told-2 : tie.Need-enum-told-2
 enum-told-2 c = search needs
 
--- src/lib.rt:78:9
 enum-told-3 : tie.Need-enum-told-3
 enum-told-3 c = search needs
 
--- src/lib.rt:78:9
 returns-2 : tie.Need-returns-2
 returns-2 c = rw (c .enum-told3 .given .1) (sym (call-refused (c .before .before .before .before .before .before .before .before .before .before .args .u) (c .before .before .before .before .before .before .before .before .before .before .args .trace .now) (c .before .before .before .before .before .before .before .before .before .before .args .page .now) (c .before .before .before .before .before .before .before .before .before .before .args .beats .now) _ _ (entry-read (c .before .before .before .before .before .before .before .before .before .before .args .u) (c .before .before .before .before .before .before .before .before .before .before .args .trace .now) (c .before .before .before .before .before .before .before .before .before .before .args .page .now) _ _ (headed _ _ (sym (c .before .before .before .before .before .before .read-header .ensures) ∙ c .before .before .before .before .h .given .1)) (sym (c .before .before .whole-verdict .ensures) ∙ c .enum-told3 .given .1))))
 
--- src/lib.rt:83:34
 cast-t12 : tie.Need-cast-t12
 cast-t12 c = search needs
 
--- src/lib.rt:83:9
 start-requires : tie.Need-start-requires
 start-requires c κs = search needs
 
--- src/lib.rt:84:22
 sub-records : tie.Need-sub-records
 sub-records c = let w = headed _ _ (sym (c .before .before .before .before .before .before .before .before .read-header .ensures) ∙ c .before .before .before .before .before .before .h .given .1) in let l : 16 ≤ length (c .before .before .before .before .before .before .before .before .before .before .before .before .args .trace .now) = leb-true _ _ (w .long) in omega arith
 
--- src/lib.rt:84:22
 part-records-start : tie.Need-part-records-start
 part-records-start c = let w = headed _ _ (sym (c .before .before .before .before .before .before .before .before .read-header .ensures) ∙ c .before .before .before .before .before .before .h .given .1) in let l : 16 ≤ length (c .before .before .before .before .before .before .before .before .before .before .before .before .args .trace .now) = leb-true _ _ (w .long) in omega arith
 
--- src/lib.rt:84:22
 part-records-end : tie.Need-part-records-end
 part-records-end c = search needs
 
--- src/lib.rt:84:5
 records-requires : tie.Need-records-requires
 records-requires c κs = search needs
 
--- src/lib.rt:66:1
 same-length : tie.Need-same-length
 same-length c = search needs
 
--- src/lib.rt:66:1
 same-length-2 : tie.Need-same-length-2
 same-length-2 c = search needs
 
--- src/lib.rt:66:1
 returns-3 : tie.Need-returns-3
 returns-3 c = let w = headed _ _ (sym (c .before .before .before .before .before .before .before .before .before .before .before .before .before .before .before .before .read-header .ensures) ∙ c .before .before .before .before .before .before .before .before .before .before .before .before .before .before .h .given .1) in c .before .before .before .before .records .ensures ∙ rw (past-header, c .before .before .before .before .before .before .before .before .start .ensures, w .read) (call-records (c .before .before .before .before .before .before .before .before .before .before .before .before .before .before .before .before .before .before .before .before .args .u) (c .before .before .before .before .before .before .before .before .before .before .before .before .before .before .before .before .before .before .before .before .args .trace .now) (c .before .before .before .before .before .before .before .before .before .before .before .before .before .before .before .before .before .before .before .before .args .page .now) (c .before .before .before .before .before .before .before .before .before .before .before .before .before .before .before .before .before .before .before .before .args .beats .now) (entry-read (c .before .before .before .before .before .before .before .before .before .before .before .before .before .before .before .before .before .before .before .before .args .u) (c .before .before .before .before .before .before .before .before .before .before .before .before .before .before .before .before .before .before .before .before .args .trace .now) (c .before .before .before .before .before .before .before .before .before .before .before .before .before .before .before .before .before .before .before .before .args .page .now) _ _ w (sym (c .before .before .before .before .before .before .before .before .before .before .before .before .whole-verdict .ensures) ∙ c .before .before .before .before .before .before .before .before .before .before .enum-told2 .given .1)))
 

@@ -5,41 +5,33 @@ use Rattle.hawsehole.proofs.lent_verdict.Statement.{statement}
 use Rattle.hawsehole.proofs.lent_verdict.Tie as tie
 use Rattle.hawsehole.proofs.lent_verdict.Reads as reads
 use Rattle.hawsehole.proofs.lent_verdict.Lts as lts
-use Rattle.hawsehole.proofs.refused.Reads as refused-reads
+use Rattle.rules.proofs.Verdict.refused.Reads as refused-reads
 use Rattle.speed.proofs.SpeedTable.fits.Reads as fits-reads
 
--- src/lib.rt:33:9
 refused-requires : tie.Need-refused-requires
 refused-requires c κs = search needs
 
--- src/lib.rt:33:9
 returns : tie.Need-returns
 unfolding lent-rules
 returns c = rw (c .refused .ensures, ne-eqb _ _ (c .before .if1 .taken))
 
--- src/lib.rt:35:8
 fits-requires : tie.Need-fits-requires
 fits-requires c κs = search needs
 
--- src/lib.rt:37:13
 returns-2 : tie.Need-returns-2
 unfolding lent-rules
 returns-2 c = rw (eq-eqb _ _ (c .before .before .before .if1 .left), ← c .before .before .fits2 .ensures, c .before .if2 .taken, eq-eqb _ _ (c .if3 .taken))
 
--- src/lib.rt:39:9
 refused-requires-2 : tie.Need-refused-requires-2
 refused-requires-2 c κs = search needs
 
--- src/lib.rt:39:9
 returns-3 : tie.Need-returns-3
 unfolding lent-rules
 returns-3 c = rw (c .refused2 .ensures, eq-eqb _ _ (c .before .before .before .before .if1 .left), ← c .before .before .before .fits2 .ensures, c .before .before .if2 .taken, ne-eqb _ _ (c .before .if3 .left))
 
--- src/lib.rt:41:5
 refused-requires-3 : tie.Need-refused-requires-3
 refused-requires-3 c κs = search needs
 
--- src/lib.rt:28:1
 returns-4 : tie.Need-returns-4
 unfolding lent-rules
 returns-4 c = rw (c .refused3 .ensures, eq-eqb _ _ (c .before .before .before .if1 .left), ← c .before .before .fits2 .ensures, c .before .if2 .left)

@@ -6,71 +6,56 @@ use Rattle.hawsehole.proofs.whole_verdict.Statement.{statement}
 use Rattle.hawsehole.proofs.whole_verdict.Tie as tie
 use Rattle.hawsehole.proofs.whole_verdict.Reads as reads
 use Rattle.hawsehole.proofs.whole_verdict.Lts as lts
-use Rattle.device.proofs.period_fits.Reads as period-fits-reads
+use Rattle.rules.proofs.period_fits.Reads as period-fits-reads
 use Rattle.hawsehole.proofs.lent_verdict.Reads as lent-verdict-reads
-use Rattle.hawsehole.proofs.refused.Reads as refused-reads
+use Rattle.rules.proofs.Verdict.refused.Reads as refused-reads
 
--- src/lib.rt:48:17
 cast-count : tie.Need-cast-count
 cast-count c = search needs
 
--- src/lib.rt:49:22
 mul-if1 : tie.Need-mul-if1
 mul-if1 c = search needs
 
--- src/lib.rt:49:17
 add-if1 : tie.Need-add-if1
 add-if1 c = search needs
 
--- src/lib.rt:50:9
 refused-requires : tie.Need-refused-requires
 refused-requires c κs = search needs
 
--- src/lib.rt:50:9
 returns : tie.Need-returns
 unfolding whole-rules
 returns c = rw (c .refused .ensures, whole-no (c .before .before .before .args .h) (c .before .before .before .args .bytes) (c .before .if1 .taken))
 
--- src/lib.rt:53:9
 refused-requires-2 : tie.Need-refused-requires-2
 refused-requires-2 c κs = search needs
 
--- src/lib.rt:53:9
 returns-2 : tie.Need-returns-2
 unfolding whole-rules
 returns-2 c = rw (c .refused2 .ensures, whole-yes (c .before .before .before .before .before .args .h) (c .before .before .before .before .before .args .bytes) (c .before .before .before .if1 .left), ne-eqb _ _ (c .before .if2 .taken))
 
--- src/lib.rt:55:31
 cast-t10 : tie.Need-cast-t10
 cast-t10 c = search needs
 
--- src/lib.rt:55:8
 period-fits-requires : tie.Need-period-fits-requires
 period-fits-requires c κs = search needs
 
--- src/lib.rt:57:13
 lent-verdict-requires : tie.Need-lent-verdict-requires
 lent-verdict-requires c κs = search needs
 
--- src/lib.rt:57:13
 returns-3 : tie.Need-returns-3
 unfolding whole-rules
 returns-3 c = rw (whole-yes (c .before .before .before .before .before .before .before .before .before .before .before .args .h) (c .before .before .before .before .before .before .before .before .before .before .before .args .bytes) (c .before .before .before .before .before .before .before .before .before .if1 .left), eq-eqb _ _ (c .before .before .before .before .before .before .before .if2 .left), ← c .before .before .before .before .before .period-fits .ensures, c .before .before .before .before .if3 .taken, c .before .if4 .taken) (c .lent-verdict .ensures)
 
--- src/lib.rt:59:9
 refused-requires-3 : tie.Need-refused-requires-3
 refused-requires-3 c κs = search needs
 
--- src/lib.rt:59:9
 returns-4 : tie.Need-returns-4
 unfolding whole-rules
 returns-4 c = rw (c .refused3 .ensures, whole-yes (c .before .before .before .before .before .before .before .before .before .before .before .args .h) (c .before .before .before .before .before .before .before .before .before .before .before .args .bytes) (c .before .before .before .before .before .before .before .before .before .if1 .left), eq-eqb _ _ (c .before .before .before .before .before .before .before .if2 .left), ← c .before .before .before .before .before .period-fits .ensures, c .before .before .before .before .if3 .taken, c .before .if4 .left)
 
--- src/lib.rt:61:5
 refused-requires-4 : tie.Need-refused-requires-4
 refused-requires-4 c κs = search needs
 
--- src/lib.rt:45:1
 returns-5 : tie.Need-returns-5
 unfolding whole-rules
 returns-5 c = rw (c .refused4 .ensures, whole-yes (c .before .before .before .before .before .before .before .before .args .h) (c .before .before .before .before .before .before .before .before .args .bytes) (c .before .before .before .before .before .before .if1 .left), eq-eqb _ _ (c .before .before .before .before .if2 .left), ← c .before .before .period-fits .ensures, c .before .if3 .left)

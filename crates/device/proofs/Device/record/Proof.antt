@@ -7,69 +7,55 @@ use Rattle.device.proofs.Device.record.Tie as tie
 use Rattle.device.proofs.Device.record.Reads as reads
 use Rattle.device.proofs.Device.record.Lts as lts
 use Rattle.device.proofs.call.turn.Reads as turn-reads
-use Rattle.device.proofs.rules.refused.Reads as refused-reads
+use Rattle.rules.proofs.Verdict.refused.Reads as refused-reads
 use Rattle.device.proofs.single.answered.Reads as answered-reads
 use Rattle.device.proofs.single.state_verdict.Reads as state-verdict-reads
 use Rattle.layout.proofs.read_record.Reads as read-record-reads
 
--- src/single.rt:94:37
 read-record-requires : tie.Need-read-record-requires
 read-record-requires c κs = search needs
 
--- src/single.rt:94:32
 enum-known-r : tie.Need-enum-known-r
 enum-known-r c = search needs
 
--- src/single.rt:95:17
 enum-told : tie.Need-enum-told
 enum-told c = search needs
 
--- src/single.rt:95:17
 refused-requires : tie.Need-refused-requires
 refused-requires c κs = search needs
 
--- src/single.rt:96:13
 answered-requires : tie.Need-answered-requires
 answered-requires c κs = search needs
 
--- src/single.rt:96:13
 returns : tie.Need-returns
 returns c = rw (c .answered .ensures, c .before .refused .ensures) (sym (step-wrong _ _ _ _ (wrong _ (sym (c .before .before .before .before .read-record .ensures) ∙ c .before .before .enum-told .given .1))))
 
--- src/single.rt:98:13
 state-verdict-requires : tie.Need-state-verdict-requires
 state-verdict-requires c κs = search needs
 
 enum-told-2 : tie.Need-enum-told-2
 enum-told-2 c = search needs
 
--- src/single.rt:100:13
 enum-told-3 : tie.Need-enum-told-3
 enum-told-3 c = search needs
 
--- src/single.rt:100:13
 answered-requires-2 : tie.Need-answered-requires-2
 answered-requires-2 c κs = search needs
 
--- src/single.rt:100:13
 returns-2 : tie.Need-returns-2
 returns-2 c = let w = whole _ _ (sym (c .before .before .before .before .before .before .before .read-record .ensures) ∙ c .before .before .before .before .before .r .given .1) in rw (c .answered2 .ensures, c .before .enum-told3 .given .1) (sym (step-unfit _ _ _ _ (w .sixteen) _ _ (sym (c .before .before .before .state-verdict .ensures) ∙ c .before .enum-told3 .given .1)))
 
--- src/single.rt:103:13
 turn-requires : tie.Need-turn-requires
 turn-requires c κs = let w = whole _ _ (sym (c .before .before .before .before .before .before .before .before .read-record .ensures) ∙ c .before .before .before .before .before .before .r .given .1) in call-of _ _ _ _ (sym (c .before .before .before .before .state-verdict .ensures) ∙ c .before .before .enum-told2 .given .1) (read-widths w)
 
--- src/single.rt:107:9
 answered-requires-3 : tie.Need-answered-requires-3
 answered-requires-3 c κs = search needs
 
--- src/single.rt:90:5
 same-length : tie.Need-same-length
 same-length c = search needs
 
--- src/single.rt:90:5
 returns-3 : tie.Need-returns-3
-returns-3 c = let w = whole _ _ (sym (c .before .before .before .before .before .before .before .before .before .before .before .before .before .read-record .ensures) ∙ c .before .before .before .before .before .before .before .before .before .before .before .r .given .1) in rw (c .answered3 .ensures) (ap (from-turn (c .before .before .before .before .before .before .before .before .before .before .before .before .before .before .before .before .args .self .core .number)) (c .before .before .before .before .turn .ensures) ∙ sym (step-turn _ _ _ _ (w .sixteen) (sym (c .before .before .before .before .before .before .before .before .before .state-verdict .ensures) ∙ c .before .before .before .before .before .before .before .enum-told2 .given .1) (w .read)))
+returns-3 c = let w = whole _ _ (sym (c .before .before .before .before .before .before .before .before .before .before .before .before .before .read-record .ensures) ∙ c .before .before .before .before .before .before .before .before .before .before .before .r .given .1) in rw (c .answered3 .ensures) (ap (from-turn _) (c .before .before .before .before .turn .ensures) ∙ sym (step-turn _ _ _ _ (w .sixteen) (sym (c .before .before .before .before .before .before .before .before .before .state-verdict .ensures) ∙ c .before .before .before .before .before .before .before .enum-told2 .given .1) (w .read)))
 
 pub record-spec : {M : Type 1} → statement M
 record-spec =

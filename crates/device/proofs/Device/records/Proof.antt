@@ -9,34 +9,27 @@ use Rattle.device.proofs.Device.records.Lts as lts
 use Rattle.device.proofs.many.fold.Reads as fold-reads
 use Rattle.device.proofs.many.records_verdict.Reads as records-verdict-reads
 
--- src/many.rt:190:13
 records-verdict-requires : tie.Need-records-verdict-requires
 records-verdict-requires c κs = search needs
 
 enum-told : tie.Need-enum-told
 enum-told c = search needs
 
--- src/many.rt:192:13
 enum-told-2 : tie.Need-enum-told-2
 enum-told-2 c = search needs
 
--- src/many.rt:192:13
 returns : tie.Need-returns
 returns c = rw (c .enum-told2 .given .1) (sym (records-refused _ _ _ _ _ _ _ (sym (c .before .before .records-verdict .ensures) ∙ c .enum-told2 .given .1)))
 
--- src/many.rt:197:9
 fold-requires : tie.Need-fold-requires
 fold-requires c κs = let e = entry-of _ _ _ _ (sym (c .before .before .before .before .records-verdict .ensures) ∙ c .before .before .enum-told .given .1) in (omega (arith, e .whole), e .able)
 
--- src/many.rt:186:5
 same-length : tie.Need-same-length
 same-length c = search needs
 
--- src/many.rt:186:5
 same-length-2 : tie.Need-same-length-2
 same-length-2 c = search needs
 
--- src/many.rt:186:5
 returns-2 : tie.Need-returns-2
 returns-2 c = c .before .before .before .before .fold .ensures ∙ sym (records-entered _ _ _ _ _ (sym (c .before .before .before .before .before .before .before .before .before .records-verdict .ensures) ∙ c .before .before .before .before .before .before .before .enum-told .given .1))
 

@@ -5,11 +5,9 @@ use Rattle.device.proofs.Device.start.Reads as reads
 use Rattle.device.proofs.Device.start.Lts as lts
 use Rattle.bursts.proofs.Bus.quiet.Reads as quiet-reads
 
--- src/many.rt:170:13
 quiet-requires : tie.Need-quiet-requires
 quiet-requires c κs = search needs
 
--- src/many.rt:153:5
 returns : tie.Need-returns
 returns c = rw (c .quiet .ensures)
 

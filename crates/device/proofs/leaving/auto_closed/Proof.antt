@@ -3,33 +3,26 @@ use Rattle.device.proofs.leaving.auto_closed.Statement.{statement}
 use Rattle.device.proofs.leaving.auto_closed.Tie as tie
 use Rattle.device.proofs.leaving.auto_closed.Reads as reads
 use Rattle.device.proofs.leaving.auto_closed.Lts as lts
-use Rattle.device.proofs.closing.closing_time.Reads as closing-time-reads
+use Rattle.parts.proofs.closing.closing_time.Reads as closing-time-reads
 
--- src/leaving.rt:133:31
 enum-told : tie.Need-enum-told
 enum-told c = search needs
 
--- src/leaving.rt:134:32
 enum-known-x : tie.Need-enum-known-x
 enum-known-x c = search needs
 
--- src/leaving.rt:135:17
 closing-time-requires : tie.Need-closing-time-requires
 closing-time-requires c κs = let f = rw (c .before .x .given .1) at (c .before .before .before .pre .2) in (c .before .before .before .pre .0, c .before .before .before .pre .1, f .1)
 
--- src/leaving.rt:138:42
 enum-told-2 : tie.Need-enum-told-2
 enum-told-2 c = search needs
 
--- src/leaving.rt:128:1
 returns : tie.Need-returns
 returns c = rw (c .enum-told .given .1)
 
--- src/leaving.rt:128:1
 returns-2 : tie.Need-returns-2
 returns-2 c = rw (c .before .before .x .given .1, c .closing-time .ensures)
 
--- src/leaving.rt:128:1
 returns-3 : tie.Need-returns-3
 returns-3 c = rw (c .enum-told2 .given .1)
 

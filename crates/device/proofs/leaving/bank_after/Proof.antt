@@ -1,4 +1,4 @@
-use Rattle.device.specs.After.{bank-after}
+use Rattle.rules.specs.After.{bank-after}
 use borrow.Author.Needs.{needs}
 use Rattle.device.proofs.leaving.bank_after.Statement.{statement}
 use Rattle.device.proofs.leaving.bank_after.Tie as tie
@@ -13,58 +13,45 @@ use Rattle.layout.proofs.code_of.Reads as code-of-reads
 use Rattle.layout.proofs.covers.Reads as covers-reads
 use Rattle.layout.proofs.is_access.Reads as is-access-reads
 
--- src/leaving.rt:188:9
 code-of-requires : tie.Need-code-of-requires
 code-of-requires c κs = search needs
 
--- src/leaving.rt:191:9
 activated-requires : tie.Need-activated-requires
 activated-requires c κs = search needs
 
--- src/leaving.rt:191:9
 returns : tie.Need-returns
 unfolding bank-after
 returns c = rw (c .activated .ensures, ← c .before .before .before .code-of .ensures, c .before .if1 .taken)
 
--- src/leaving.rt:194:16
 is-access-requires : tie.Need-is-access-requires
 is-access-requires c κs = search needs
 
--- src/leaving.rt:194:39
 a10-requires : tie.Need-a10-requires
 a10-requires c κs = search needs
 
--- src/leaving.rt:196:28
 auto-closed-requires : tie.Need-auto-closed-requires
 auto-closed-requires c κs = search needs
 
--- src/leaving.rt:196:9
 with-status-requires : tie.Need-with-status-requires
 with-status-requires c κs = search needs
 
--- src/leaving.rt:196:9
 returns-2 : tie.Need-returns-2
 unfolding bank-after
 returns-2 c = rw (c .with-status .ensures, c .before .auto-closed .ensures, ← c .before .before .before .before .is-access .ensures, ← c .before .before .before .before .before .before .before .code-of .ensures, c .before .before .before .before .before .if1 .left, ← c .before .before .before .a10 .ensures, c .before .before .if2 .taken)
 
--- src/leaving.rt:198:9
 covers-requires : tie.Need-covers-requires
 covers-requires c κs = search needs
 
--- src/leaving.rt:200:28
 precharged-requires : tie.Need-precharged-requires
 precharged-requires c κs = search needs
 
--- src/leaving.rt:200:9
 with-status-requires-2 : tie.Need-with-status-requires-2
 with-status-requires-2 c κs = search needs
 
--- src/leaving.rt:200:9
 returns-3 : tie.Need-returns-3
 unfolding bank-after
 returns-3 c = rw (c .with-status2 .ensures, c .before .precharged .ensures, ← c .before .before .before .before .before .before .is-access .ensures, ← c .before .before .before .before .before .before .before .before .before .code-of .ensures, ← c .before .before .before .covers .ensures, ← c .before .before .before .before .before .a10 .ensures, c .before .before .before .before .before .before .before .if1 .left, c .before .before .before .before .if2 .left, c .before .before .if3 .taken)
 
--- src/leaving.rt:173:1
 returns-4 : tie.Need-returns-4
 unfolding bank-after
 returns-4 c = rw (← c .before .before .before .before .is-access .ensures, ← c .before .before .before .before .before .before .before .code-of .ensures, ← c .before .covers .ensures, ← c .before .before .before .a10 .ensures, c .before .before .before .before .before .if1 .left, c .before .before .if2 .left, c .if3 .left)

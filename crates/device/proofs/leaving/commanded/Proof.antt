@@ -8,47 +8,36 @@ use Rattle.device.proofs.leaving.commanded.Lts as lts
 use Rattle.device.proofs.leaving.bank_after.Reads as bank-after-reads
 use Rattle.device.proofs.leaving.touches.Reads as touches-reads
 
--- src/leaving.rt:229:8
 touches-requires : tie.Need-touches-requires
 touches-requires c κs = search needs
 
--- src/leaving.rt:230:68
 array-copy-out-bank-after : tie.Need-array-copy-out-bank-after
 array-copy-out-bank-after c = search needs
 
--- src/leaving.rt:230:13
 bank-after-requires : tie.Need-bank-after-requires
 bank-after-requires c κs = (c .before .before .before .pre .0, c .before .before .before .pre .1, c .before .before .before .pre .2 .each 0)
 
--- src/leaving.rt:231:68
 array-copy-out-bank-after-2 : tie.Need-array-copy-out-bank-after-2
 array-copy-out-bank-after-2 c = search needs
 
--- src/leaving.rt:231:13
 bank-after-requires-2 : tie.Need-bank-after-requires-2
 bank-after-requires-2 c κs = (c .before .before .before .before .before .pre .0, c .before .before .before .before .before .pre .1, c .before .before .before .before .before .pre .2 .each 1)
 
--- src/leaving.rt:232:68
 array-copy-out-bank-after-3 : tie.Need-array-copy-out-bank-after-3
 array-copy-out-bank-after-3 c = search needs
 
--- src/leaving.rt:232:13
 bank-after-requires-3 : tie.Need-bank-after-requires-3
 bank-after-requires-3 c κs = (c .before .before .before .before .before .before .before .pre .0, c .before .before .before .before .before .before .before .pre .1, c .before .before .before .before .before .before .before .pre .2 .each 2)
 
--- src/leaving.rt:233:68
 array-copy-out-bank-after-4 : tie.Need-array-copy-out-bank-after-4
 array-copy-out-bank-after-4 c = search needs
 
--- src/leaving.rt:233:13
 bank-after-requires-4 : tie.Need-bank-after-requires-4
 bank-after-requires-4 c κs = (c .before .before .before .before .before .before .before .before .before .pre .0, c .before .before .before .before .before .before .before .before .before .pre .1, c .before .before .before .before .before .before .before .before .before .pre .2 .each 3)
 
--- src/leaving.rt:234:9
 returns : tie.Need-returns
 returns c = rw (c .bank-after4 .ensures, c .before .before .bank-after3 .ensures, c .before .before .before .before .bank-after2 .ensures, c .before .before .before .before .before .before .bank-after .ensures) (sym (commanded-four _ _ _ _ _ _ _ _ _ (c .before .before .before .before .before .before .before .before .before .before .good .1 .1 .1 .1 .1 .1 .1 .1 .0 .1 .0 .1)))
 
--- src/leaving.rt:215:1
 returns-2 : tie.Need-returns-2
 returns-2 c = sym (untouched (c .before .before .args .k) _ _ _ _ (c .before .before .args .r) _ _ (sym (c .before .touches .ensures) ∙ c .if1 .left) _)
 

@@ -1,4 +1,4 @@
-use Rattle.device.specs.After.{core-from}
+use Rattle.rules.specs.After.{core-from}
 use borrow.Author.Needs.{needs}
 use Rattle.device.proofs.leaving.core_from.Statement.{statement}
 use Rattle.device.proofs.leaving.core_from.Tie as tie
@@ -6,15 +6,12 @@ use Rattle.device.proofs.leaving.core_from.Reads as reads
 use Rattle.device.proofs.leaving.core_from.Lts as lts
 use Rattle.device.proofs.leaving.startup_after.Reads as startup-after-reads
 
--- src/leaving.rt:87:9
 startup-after-requires : tie.Need-startup-after-requires
 startup-after-requires c κs = search needs
 
--- src/leaving.rt:94:17
 add-t10 : tie.Need-add-t10
 add-t10 c = search needs
 
--- src/leaving.rt:82:1
 returns : tie.Need-returns
 unfolding core-from
 returns c = rw (c .before .before .startup-after .ensures)

@@ -4,11 +4,9 @@ use Rattle.device.proofs.leaving.event_if.Tie as tie
 use Rattle.device.proofs.leaving.event_if.Reads as reads
 use Rattle.device.proofs.leaving.event_if.Lts as lts
 
--- src/leaving.rt:28:1
 returns : tie.Need-returns
 returns c = rw (c .if1 .taken)
 
--- src/leaving.rt:28:1
 returns-2 : tie.Need-returns-2
 returns-2 c = search needs
 

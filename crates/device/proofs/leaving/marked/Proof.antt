@@ -5,11 +5,9 @@ use Rattle.device.proofs.leaving.marked.Reads as reads
 use Rattle.device.proofs.leaving.marked.Lts as lts
 use Rattle.device.proofs.leaving.event_if.Reads as event-if-reads
 
--- src/leaving.rt:161:9
 event-if-requires : tie.Need-event-if-requires
 event-if-requires c κs = search needs
 
--- src/leaving.rt:155:1
 returns : tie.Need-returns
 returns c = rw (c .event-if .ensures)
 

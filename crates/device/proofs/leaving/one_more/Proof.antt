@@ -4,27 +4,21 @@ use Rattle.device.proofs.leaving.one_more.Tie as tie
 use Rattle.device.proofs.leaving.one_more.Reads as reads
 use Rattle.device.proofs.leaving.one_more.Lts as lts
 
--- src/leaving.rt:38:28
 enum-told : tie.Need-enum-told
 enum-told c = search needs
 
--- src/leaving.rt:39:30
 enum-told-2 : tie.Need-enum-told-2
 enum-told-2 c = search needs
 
--- src/leaving.rt:40:30
 enum-told-3 : tie.Need-enum-told-3
 enum-told-3 c = search needs
 
--- src/leaving.rt:34:1
 returns : tie.Need-returns
 returns c = rw (c .enum-told .given .1)
 
--- src/leaving.rt:34:1
 returns-2 : tie.Need-returns-2
 returns-2 c = rw (c .enum-told2 .given .1)
 
--- src/leaving.rt:34:1
 returns-3 : tie.Need-returns-3
 returns-3 c = rw (c .enum-told3 .given .1)
 

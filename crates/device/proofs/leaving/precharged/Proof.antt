@@ -4,31 +4,24 @@ use Rattle.device.proofs.leaving.precharged.Tie as tie
 use Rattle.device.proofs.leaving.precharged.Reads as reads
 use Rattle.device.proofs.leaving.precharged.Lts as lts
 
--- src/leaving.rt:115:31
 enum-told : tie.Need-enum-told
 enum-told c = search needs
 
--- src/leaving.rt:116:47
 enum-told-2 : tie.Need-enum-told-2
 enum-told-2 c = search needs
 
--- src/leaving.rt:117:26
 enum-known-x : tie.Need-enum-known-x
 enum-known-x c = search needs
 
--- src/leaving.rt:111:1
 returns : tie.Need-returns
 returns c = rw (c .enum-told .given .1)
 
--- src/leaving.rt:111:1
 returns-2 : tie.Need-returns-2
 returns-2 c = rw (c .enum-told2 .given .1)
 
--- src/leaving.rt:111:1
 returns-3 : tie.Need-returns-3
 returns-3 c = rw (c .before .before .x .given .1, c .if1 .taken)
 
--- src/leaving.rt:111:1
 returns-4 : tie.Need-returns-4
 returns-4 c = rw (c .before .before .x .given .1, c .if1 .left)
 

@@ -5,15 +5,12 @@ use Rattle.device.proofs.leaving.refreshes_if.Reads as reads
 use Rattle.device.proofs.leaving.refreshes_if.Lts as lts
 use Rattle.device.proofs.leaving.one_more.Reads as one-more-reads
 
--- src/leaving.rt:48:12
 one-more-requires : tie.Need-one-more-requires
 one-more-requires c κs = search needs
 
--- src/leaving.rt:45:1
 returns : tie.Need-returns
 returns c = rw (c .one-more .ensures, c .before .if1 .taken)
 
--- src/leaving.rt:45:1
 returns-2 : tie.Need-returns-2
 returns-2 c = search needs
 

@@ -1,4 +1,4 @@
-use Rattle.device.specs.After.{startup-after}
+use Rattle.rules.specs.After.{startup-after}
 use borrow.Author.Needs.{needs}
 use Rattle.device.proofs.leaving.startup_after.Statement.{statement}
 use Rattle.device.proofs.leaving.startup_after.Tie as tie
@@ -10,27 +10,21 @@ use Rattle.device.proofs.leaving.register_if.Reads as register-if-reads
 use Rattle.layout.proofs.a10.Reads as a10-reads
 use Rattle.layout.proofs.code_of.Reads as code-of-reads
 
--- src/leaving.rt:64:9
 code-of-requires : tie.Need-code-of-requires
 code-of-requires c κs = search needs
 
--- src/leaving.rt:65:9
 a10-requires : tie.Need-a10-requires
 a10-requires c κs = search needs
 
--- src/leaving.rt:69:9
 event-if-requires : tie.Need-event-if-requires
 event-if-requires c κs = search needs
 
--- src/leaving.rt:70:9
 refreshes-if-requires : tie.Need-refreshes-if-requires
 refreshes-if-requires c κs = search needs
 
--- src/leaving.rt:71:9
 register-if-requires : tie.Need-register-if-requires
 register-if-requires c κs = search needs
 
--- src/leaving.rt:61:1
 returns : tie.Need-returns
 unfolding startup-after
 returns c = rw (c .register-if .ensures, c .before .refreshes-if .ensures, c .before .before .event-if .ensures, c .before .before .before .a10 .ensures, c .before .before .before .before .code-of .ensures)

@@ -7,19 +7,15 @@ use Rattle.layout.proofs.a10.Reads as a10-reads
 use Rattle.layout.proofs.code_of.Reads as code-of-reads
 use Rattle.layout.proofs.is_access.Reads as is-access-reads
 
--- src/leaving.rt:209:9
 code-of-requires : tie.Need-code-of-requires
 code-of-requires c κs = search needs
 
--- src/leaving.rt:210:16
 is-access-requires : tie.Need-is-access-requires
 is-access-requires c κs = search needs
 
--- src/leaving.rt:210:39
 a10-requires : tie.Need-a10-requires
 a10-requires c κs = search needs
 
--- src/leaving.rt:206:1
 returns : tie.Need-returns
 returns c = rw (c .a10 .ensures, c .before .is-access .ensures, c .before .before .code-of .ensures)
 

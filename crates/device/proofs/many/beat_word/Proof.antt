@@ -1,4 +1,4 @@
-use Rattle.device.specs.Report.{beat-word}
+use Rattle.rules.specs.Report.{beat-word}
 use borrow.Author.Needs.{needs}
 use Rattle.device.proofs.many.beat_word.Statement.{statement}
 use Rattle.device.proofs.many.beat_word.Tie as tie
@@ -6,37 +6,29 @@ use Rattle.device.proofs.many.beat_word.Reads as reads
 use Rattle.device.proofs.many.beat_word.Lts as lts
 use Rattle.device.proofs.many.cells_word.Reads as cells-word-reads
 
--- src/many.rt:36:24
 enum-told : tie.Need-enum-told
 enum-told c = search needs
 
--- src/many.rt:37:22
 enum-known-b : tie.Need-enum-known-b
 enum-known-b c = search needs
 
--- src/many.rt:37:28
 cells-word-requires : tie.Need-cells-word-requires
 cells-word-requires c κs = search needs
 
--- src/many.rt:38:22
 enum-known-b-2 : tie.Need-enum-known-b-2
 enum-known-b-2 c = search needs
 
--- src/many.rt:38:28
 cells-word-requires-2 : tie.Need-cells-word-requires-2
 cells-word-requires-2 c κs = search needs
 
--- src/many.rt:32:1
 returns : tie.Need-returns
 unfolding beat-word
 returns c = rw (c .enum-told .given .1)
 
--- src/many.rt:32:1
 returns-2 : tie.Need-returns-2
 unfolding beat-word
 returns-2 c = rw (c .before .before .b .given .1, c .cells-word .ensures)
 
--- src/many.rt:32:1
 returns-3 : tie.Need-returns-3
 unfolding beat-word
 returns-3 c = rw (c .before .before .b2 .given .1, c .cells-word2 .ensures)

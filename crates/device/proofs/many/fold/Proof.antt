@@ -6,8 +6,8 @@ use mathlib.Core.List.{List}
 use lib.ListN.{length, take, drop, length-take, length-drop}
 use borrow.Author.Needs.{needs}
 use Rattle.layout.specs.Bytes.{records-of}
-use Rattle.device.specs.Reach.{Able}
-use Rattle.device.specs.Report.{fold}
+use Rattle.parts.specs.Reach.{Able}
+use Rattle.rules.specs.Report.{fold}
 use Rattle.device.proofs.Folds.{able-one, goes-on, stays-able, stops}
 use Rattle.device.proofs.many.fold.Statement.{statement}
 use Rattle.device.proofs.many.fold.Tie as tie
@@ -33,7 +33,6 @@ Inv-loop u bytes count page₀ beats₀ st₀ k₀ page beats st k =
 abbrev μ-loop : tie.MeasureT-loop
 μ-loop u bytes count page₀ beats₀ st₀ k₀ page beats st k = count - k
 
--- src/many.rt:95:5
 loop-holds : tie.Need-loop-holds Inv-loop μ-loop
 loop-holds c =
     let a = c .before .before .before .args in
@@ -45,27 +44,21 @@ loop-holds c =
       ap (λ (m : ℕ). fold (a .u) (a .s) (records-of m (a .bytes .now)) (a .page .now) (a .beats .now)) e,
     )
 
--- src/many.rt:97:18
 mul-at : tie.Need-mul-at Inv-loop μ-loop
 mul-at c = omega arith
 
--- src/many.rt:98:48
 add-line-turn : tie.Need-add-line-turn Inv-loop μ-loop
 add-line-turn c = omega arith
 
--- src/many.rt:98:37
 sub-line-turn : tie.Need-sub-line-turn Inv-loop μ-loop
 sub-line-turn c = omega arith
 
--- src/many.rt:98:37
 part-line-turn-start : tie.Need-part-line-turn-start Inv-loop μ-loop
 part-line-turn-start c = omega arith
 
--- src/many.rt:98:37
 part-line-turn-end : tie.Need-part-line-turn-end Inv-loop μ-loop
 part-line-turn-end c = omega arith
 
--- src/many.rt:98:13
 line-turn-requires : tie.Need-line-turn-requires Inv-loop μ-loop
 line-turn-requires c κs =
     let l = c .before .before .before .before .before .loop in
@@ -75,19 +68,15 @@ line-turn-requires c κs =
 enum-told : tie.Need-enum-told Inv-loop μ-loop
 enum-told c = search needs
 
--- src/many.rt:101:13
 enum-told-2 : tie.Need-enum-told-2 Inv-loop μ-loop
 enum-told-2 c = search needs
 
--- src/many.rt:101:13
 same-length : tie.Need-same-length Inv-loop μ-loop
 same-length c = c .before .before .before .before .before .before .line-turn .kept .1 .1 .1 .0 ∙ c .before .before .before .before .before .before .before .before .before .before .before .before .loop .inv .1
 
--- src/many.rt:101:13
 same-length-2 : tie.Need-same-length-2 Inv-loop μ-loop
 same-length-2 c = c .before .before .before .before .before .before .line-turn .kept .1 .1 .1 .1 .0 ∙ c .before .before .before .before .before .before .before .before .before .before .before .before .loop .inv .2
 
--- src/many.rt:101:13
 returns : tie.Need-returns Inv-loop μ-loop
 returns c =
     let called = c .before .before .before .before .before .before .line-turn in
@@ -95,15 +84,12 @@ returns c =
     let lt = c .before .before .before .before .before .before .before .before .before .before .before .loop-test .taken in
     sym (l .inv .4 ∙ stops _ _ (l .k) lt _ _ _ _ _ (sixteen (l .k) _) _ (called .ensures) _ _ (c .enum-told2 .given .1))
 
--- src/many.rt:108:9
 add-k : tie.Need-add-k Inv-loop μ-loop
 add-k c = omega arith
 
--- src/many.rt:95:5
 loop-less : tie.Need-loop-less Inv-loop μ-loop
 loop-less c = omega arith
 
--- src/many.rt:95:5
 loop-again : tie.Need-loop-again Inv-loop μ-loop
 loop-again c =
     let called = c .before .before .before .before .before .before .before .line-turn in
@@ -117,15 +103,12 @@ loop-again c =
       l .inv .4 ∙ goes-on _ _ (l .k) lt _ _ _ _ _ (sixteen (l .k) _) _ (called .ensures) v,
     )
 
--- src/many.rt:89:1
 same-length-3 : tie.Need-same-length-3 Inv-loop μ-loop
 same-length-3 c = c .before .before .loop .inv .1
 
--- src/many.rt:89:1
 same-length-4 : tie.Need-same-length-4 Inv-loop μ-loop
 same-length-4 c = c .before .before .loop .inv .2
 
--- src/many.rt:89:1
 returns-2 : tie.Need-returns-2 Inv-loop μ-loop
 unfolding fold records-of
 returns-2 c =

@@ -1,4 +1,4 @@
-use Rattle.device.specs.Report.{line-turn}
+use Rattle.device.specs.Turn.{line-turn}
 use Rattle.layout.specs.declared.Record.{Record}
 use mathlib.Core.Path.{sym, ap, _∙_}
 use Rattle.layout.proofs.ReadBack.{whole, never-wrong}
@@ -9,68 +9,54 @@ use Rattle.device.proofs.many.line_turn.Statement.{statement}
 use Rattle.device.proofs.many.line_turn.Tie as tie
 use Rattle.device.proofs.many.line_turn.Reads as reads
 use Rattle.device.proofs.many.line_turn.Lts as lts
-use Rattle.device.proofs.call.clock_of.Reads as clock-of-reads
+use Rattle.parts.proofs.time.clock_of.Reads as clock-of-reads
 use Rattle.device.proofs.call.turn.Reads as turn-reads
 use Rattle.device.proofs.many.report.Reads as report-reads
-use Rattle.device.proofs.rules.refused.Reads as refused-reads
+use Rattle.rules.proofs.Verdict.refused.Reads as refused-reads
 use Rattle.layout.proofs.read_record.Reads as read-record-reads
 
--- src/many.rt:66:33
 read-record-requires : tie.Need-read-record-requires
 read-record-requires c κs = search needs
 
--- src/many.rt:66:28
 enum-known-r : tie.Need-enum-known-r
 enum-known-r c = search needs
 
--- src/many.rt:67:13
 enum-told : tie.Need-enum-told
 enum-told c = search needs
 
--- src/many.rt:67:13
 refused-requires : tie.Need-refused-requires
 refused-requires c κs = search needs
 
--- src/many.rt:69:9
 returns : tie.Need-returns
 returns c = absurd (never-wrong _ (c .before .before .before .before .before .before .before .pre .0) (sym (c .before .before .before .read-record .ensures) ∙ c .before .enum-told .given .1))
 
--- src/many.rt:77:9
 turn-requires : tie.Need-turn-requires
 turn-requires c κs = able-call (c .before .before .before .before .before .before .before .before .before .pre .1) _ (read-widths (whole _ _ (sym (c .before .before .before .before .before .read-record .ensures) ∙ c .before .before .before .r .given .1)))
 
 enum-told-2 : tie.Need-enum-told-2
 enum-told-2 c = search needs
 
--- src/many.rt:80:9
 enum-told-3 : tie.Need-enum-told-3
 enum-told-3 c = search needs
 
--- src/many.rt:80:9
 same-length : tie.Need-same-length
 same-length c = search needs
 
--- src/many.rt:80:9
 returns-2 : tie.Need-returns-2
 returns-2 c = let w = whole _ _ (sym (c .before .before .before .before .before .before .before .before .before .before .read-record .ensures) ∙ c .before .before .before .before .before .before .before .before .r .given .1) in unreported _ _ _ _ _ _ (c .before .before .before .before .turn .ensures) _ _ (c .enum-told3 .given .1) ∙ ap (λ (x : Record). line-turn (c .before .before .before .before .before .before .before .before .before .before .before .before .before .before .args .u) (c .before .before .before .before .before .before .before .before .before .before .before .before .before .before .args .s) x (c .before .before .before .before .before .before .before .before .before .before .before .before .before .before .args .page .now) (c .before .before .before .before .before .before .before .before .before .before .before .before .before .before .args .beats .now)) (w .read)
 
--- src/many.rt:82:9
 clock-of-requires : tie.Need-clock-of-requires
 clock-of-requires c κs = c .before .before .before .before .before .before .before .before .before .before .before .before .before .before .pre .1 .state .core .last
 
--- src/many.rt:84:5
 report-requires : tie.Need-report-requires
 report-requires c κs = search needs
 
--- src/many.rt:62:1
 same-length-2 : tie.Need-same-length-2
 same-length-2 c = search needs
 
--- src/many.rt:62:1
 same-length-3 : tie.Need-same-length-3
 same-length-3 c = search needs
 
--- src/many.rt:62:1
 returns-3 : tie.Need-returns-3
 returns-3 c = let w = whole _ _ (sym (c .before .before .before .before .before .before .before .before .before .before .before .before .before .before .before .read-record .ensures) ∙ c .before .before .before .before .before .before .before .before .before .before .before .before .before .r .given .1) in reported _ _ _ _ _ _ (c .before .before .before .before .before .before .before .before .before .turn .ensures) (c .before .before .before .before .before .enum-told2 .given .1) _ (c .before .before .before .before .clock-of .ensures) _ (c .before .before .report .ensures) ∙ ap (λ (x : Record). line-turn (c .before .before .before .before .before .before .before .before .before .before .before .before .before .before .before .before .before .before .before .args .u) (c .before .before .before .before .before .before .before .before .before .before .before .before .before .before .before .before .before .before .before .args .s) x (c .before .before .before .before .before .before .before .before .before .before .before .before .before .before .before .before .before .before .before .args .page .now) (c .before .before .before .before .before .before .before .before .before .before .before .before .before .before .before .before .before .before .before .args .beats .now)) (w .read)
 

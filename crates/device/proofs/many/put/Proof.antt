@@ -6,23 +6,18 @@ use Rattle.device.proofs.many.put.Tie as tie
 use Rattle.device.proofs.many.put.Reads as reads
 use Rattle.device.proofs.many.put.Lts as lts
 
--- src/many.rt:47:9
 mul-beats : tie.Need-mul-beats
 mul-beats c = search needs
 
--- src/many.rt:47:9
 slice-write-beats : tie.Need-slice-write-beats
 slice-write-beats c = search needs
 
--- src/many.rt:43:1
 same-length : tie.Need-same-length
 same-length c = search needs
 
--- src/many.rt:43:1
 returns : tie.Need-returns
 returns c = search needs
 
--- src/many.rt:43:1
 returns-2 : tie.Need-returns-2
 returns-2 c = sym (set-out _ _ _ (c .if1 .left))
 

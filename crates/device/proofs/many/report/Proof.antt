@@ -1,4 +1,4 @@
-use Rattle.device.specs.Report.{put-line}
+use Rattle.rules.specs.Report.{put-line}
 use borrow.Author.Needs.{needs}
 use Rattle.device.proofs.many.report.Statement.{statement}
 use Rattle.device.proofs.many.report.Tie as tie
@@ -7,31 +7,24 @@ use Rattle.device.proofs.many.report.Lts as lts
 use Rattle.device.proofs.many.beat_word.Reads as beat-word-reads
 use Rattle.device.proofs.many.put.Reads as put-reads
 
--- src/many.rt:56:14
 mul-at : tie.Need-mul-at
 mul-at c = search needs
 
--- src/many.rt:57:20
 beat-word-requires : tie.Need-beat-word-requires
 beat-word-requires c κs = search needs
 
--- src/many.rt:57:5
 put-requires : tie.Need-put-requires
 put-requires c κs = search needs
 
--- src/many.rt:58:16
 add-put : tie.Need-add-put
 add-put c = search needs
 
--- src/many.rt:58:5
 put-requires-2 : tie.Need-put-requires-2
 put-requires-2 c κs = search needs
 
--- src/many.rt:52:1
 same-length : tie.Need-same-length
 same-length c = search needs
 
--- src/many.rt:52:1
 returns : tie.Need-returns
 unfolding put-line
 returns c = rw (c .before .before .put2 .ensures, c .before .before .before .before .before .before .put .ensures, c .before .before .before .before .before .before .before .beat-word .ensures)

@@ -3,20 +3,17 @@ use Rattle.device.proofs.single.answered.Statement.{statement}
 use Rattle.device.proofs.single.answered.Tie as tie
 use Rattle.device.proofs.single.answered.Reads as reads
 use Rattle.device.proofs.single.answered.Lts as lts
-use Rattle.device.proofs.single.interval_of.Reads as interval-of-reads
-use Rattle.device.proofs.single.number_of.Reads as number-of-reads
+use Rattle.rules.proofs.Verdict.interval.Reads as interval-reads
+use Rattle.rules.proofs.Verdict.number.Reads as number-reads
 
--- src/single.rt:76:9
-number-of-requires : tie.Need-number-of-requires
-number-of-requires c κs = search needs
+number-requires : tie.Need-number-requires
+number-requires c κs = search needs
 
--- src/single.rt:77:9
-interval-of-requires : tie.Need-interval-of-requires
-interval-of-requires c κs = search needs
+interval-requires : tie.Need-interval-requires
+interval-requires c κs = search needs
 
--- src/single.rt:73:1
 returns : tie.Need-returns
-returns c = rw (c .interval-of .ensures, c .before .number-of .ensures)
+returns c = rw (c .interval .ensures, c .before .number .ensures)
 
 pub answered-spec : {M : Type 1} → statement M
-answered-spec = tie.close (tie.spec number-of-requires interval-of-requires returns)
+answered-spec = tie.close (tie.spec number-requires interval-requires returns)

@@ -1,0 +1,3 @@
+pub mod Lowest
+pub mod Events
+pub mod Ladders

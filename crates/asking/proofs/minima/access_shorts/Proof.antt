@@ -1,0 +1,17 @@
+use mathlib.Core.Path.{sym}
+use Rattle.asking.proofs.Events.{access-shorts}
+use borrow.Author.Needs.{needs}
+use Rattle.asking.proofs.minima.access_shorts.Statement.{statement}
+use Rattle.asking.proofs.minima.access_shorts.Tie as tie
+use Rattle.asking.proofs.minima.access_shorts.Reads as reads
+use Rattle.asking.proofs.minima.access_shorts.Lts as lts
+use Rattle.asking.proofs.since.short_opened.Reads as short-opened-reads
+
+short-opened-requires : tie.Need-short-opened-requires
+short-opened-requires c κs = search needs
+
+returns : tie.Need-returns
+returns c = rw (c .short-opened .ensures) (sym (access-shorts _ _ _ _))
+
+pub access-shorts-spec : {M : Type 1} → statement M
+access-shorts-spec = tie.close (tie.spec short-opened-requires returns)

@@ -1,0 +1,49 @@
+use Rattle.asking.specs.Shorts.{short-others}
+use borrow.Author.Needs.{needs}
+use Rattle.asking.proofs.minima.short_others.Statement.{statement}
+use Rattle.asking.proofs.minima.short_others.Tie as tie
+use Rattle.asking.proofs.minima.short_others.Reads as reads
+use Rattle.asking.proofs.minima.short_others.Lts as lts
+use Rattle.asking.proofs.minima.short_other.Reads as short-other-reads
+
+array-copy-out-short-other : tie.Need-array-copy-out-short-other
+array-copy-out-short-other c = search needs
+
+short-other-requires : tie.Need-short-other-requires
+short-other-requires c κs = (c .before .pre .0, c .before .pre .1 .each 0)
+
+array-copy-out-short-other-2 : tie.Need-array-copy-out-short-other-2
+array-copy-out-short-other-2 c = search needs
+
+short-other-requires-2 : tie.Need-short-other-requires-2
+short-other-requires-2 c κs = (c .before .before .before .pre .0, c .before .before .before .pre .1 .each 1)
+
+array-copy-out-short-other-3 : tie.Need-array-copy-out-short-other-3
+array-copy-out-short-other-3 c = search needs
+
+short-other-requires-3 : tie.Need-short-other-requires-3
+short-other-requires-3 c κs = (c .before .before .before .before .before .pre .0, c .before .before .before .before .before .pre .1 .each 2)
+
+array-copy-out-short-other-4 : tie.Need-array-copy-out-short-other-4
+array-copy-out-short-other-4 c = search needs
+
+short-other-requires-4 : tie.Need-short-other-requires-4
+short-other-requires-4 c κs = (c .before .before .before .before .before .before .before .pre .0, c .before .before .before .before .before .before .before .pre .1 .each 3)
+
+returns : tie.Need-returns
+unfolding short-others
+returns c = rw (c .short-other4 .ensures, c .before .before .short-other3 .ensures, c .before .before .before .before .short-other2 .ensures, c .before .before .before .before .before .before .short-other .ensures)
+
+pub short-others-spec : {M : Type 1} → statement M
+short-others-spec =
+    tie.close
+    (tie.spec
+    array-copy-out-short-other
+    short-other-requires
+    array-copy-out-short-other-2
+    short-other-requires-2
+    array-copy-out-short-other-3
+    short-other-requires-3
+    array-copy-out-short-other-4
+    short-other-requires-4
+    returns)

@@ -1,0 +1,64 @@
+// A minimum since a clock, an event, the ACTIVE of an open bank, its last store, a closing.
+ghost use mathlib.Core.Path.{_≡_};
+ghost use Rattle.parts.specs.Reach.{Reach, FitPeriod};
+ghost use Rattle.rules.specs.Admitted.{FitEvent, FitStatus};
+ghost use Rattle.asking.specs.Shorts.{short-on, short-since, short-opened, short-stored, short-closed};
+use parts::time;
+use rules::Status;
+use units::Clock;
+use units::Event;
+use units::Ps;
+
+// A minimum since clock n is not met.
+pub fn short_on(period: Ps, n: Clock, min: Ps, now: Ps) -> bool
+    requires { ⌜ Reach period n ⌝ }
+    ensures { λ r. ⌜ r ≡ short-on period n min now ⌝ }
+{
+    !time::at(period, n).met(min, now)
+}
+
+// "A minimum is met if its event has never occurred."
+pub fn short_since(period: Ps, event: Event, min: Ps, now: Ps) -> bool
+    requires { ⌜ FitPeriod period × FitEvent event ⌝ }
+    ensures { λ r. ⌜ r ≡ short-since period event min now ⌝ }
+{
+    match event {
+        Event::Never => false,
+        Event::On(n) => short_on(period, n, min, now),
+    }
+}
+
+// Since the ACTIVE of an open bank.
+pub fn short_opened(period: Ps, status: Status, min: Ps, now: Ps) -> bool
+    requires { ⌜ FitPeriod period × FitStatus status ⌝ }
+    ensures { λ r. ⌜ r ≡ short-opened period status min now ⌝ }
+{
+    match status {
+        Status::NotStarted => false,
+        Status::Open { row: _, active } => short_on(period, active, min, now),
+        Status::Closed { closing: _ } => false,
+    }
+}
+
+// Since the last store in an open bank.
+pub fn short_stored(period: Ps, status: Status, stored: Event, min: Ps, now: Ps) -> bool
+    requires { ⌜ FitPeriod period × FitEvent stored ⌝ }
+    ensures { λ r. ⌜ r ≡ short-stored period status stored min now ⌝ }
+{
+    match status {
+        Status::NotStarted => false,
+        Status::Open { row: _, active: _ } => short_since(period, stored, min, now),
+        Status::Closed { closing: _ } => false,
+    }
+}
+
+// Since the closing of a closed bank.
+pub fn short_closed(status: Status, min: Ps, now: Ps) -> bool
+    ensures { λ r. ⌜ r ≡ short-closed status min now ⌝ }
+{
+    match status {
+        Status::NotStarted => false,
+        Status::Open { row: _, active: _ } => false,
+        Status::Closed { closing } => !closing.met(min, now),
+    }
+}

@@ -1,0 +1,26 @@
+use Rattle.rules.specs.Fits.{burst-fits}
+use borrow.Author.Needs.{needs}
+use Rattle.parts.proofs.admitting.burst_fits.Statement.{statement}
+use Rattle.parts.proofs.admitting.burst_fits.Tie as tie
+use Rattle.parts.proofs.admitting.burst_fits.Reads as reads
+use Rattle.parts.proofs.admitting.burst_fits.Lts as lts
+use Rattle.parts.proofs.admitting.clock_fits.Reads as clock-fits-reads
+use Rattle.parts.proofs.admitting.event_fits.Reads as event-fits-reads
+use Rattle.mode.proofs.legal.Reads as legal-reads
+
+clock-fits-requires : tie.Need-clock-fits-requires
+clock-fits-requires c κs = search needs
+
+event-fits-requires : tie.Need-event-fits-requires
+event-fits-requires c κs = search needs
+
+legal-requires : tie.Need-legal-requires
+legal-requires c κs = search needs
+
+returns : tie.Need-returns
+unfolding burst-fits
+returns c = rw (c .before .before .before .legal .ensures, c .before .before .before .before .event-fits .ensures, c .before .before .before .before .before .clock-fits .ensures)
+
+pub burst-fits-spec : {M : Type 1} → statement M
+burst-fits-spec =
+    tie.close (tie.spec clock-fits-requires event-fits-requires legal-requires returns)

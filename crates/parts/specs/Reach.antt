@@ -1,0 +1,45 @@
+-- What the functions behind the one-record call may rely on: its own checks 3, 6 and 25, as facts. Definitions only.
+use Prim.Native.Nat.{ℕ, _+_, _^_, _≤_}
+use mathlib.Core.List.{List}
+use Rattle.units.specs.declared.Clock.{Clock}
+use Rattle.units.specs.declared.Ps.{Ps}
+use Rattle.speed.specs.declared.SpeedTable.{SpeedTable}
+use Rattle.speed.specs.Bounds.{Bounds}
+use Rattle.layout.specs.declared.Record.{Record}
+use Rattle.layout.specs.Widths.{Widths}
+use Rattle.rules.specs.declared.Bank.{Bank}
+use Rattle.rules.specs.declared.Core.{Core}
+use Rattle.rules.specs.declared.State.{State}
+use Rattle.rules.specs.declared.Setup.{Setup}
+use Rattle.rules.specs.Fits.{number-max}
+use Rattle.rules.specs.Banks.{bank-at}
+use Rattle.rules.specs.Rules.{clock-max}
+use Rattle.rules.specs.Admitted.{FitBank, FitCore, Admitted}
+
+-- number 3
+abbrev pub FitPeriod : Ps → Type 0
+FitPeriod p = p .0 ≤ 65_535
+
+-- a clock whose product with the period fits 64 bits: up to the longest skip, or a full page, past the last clock
+pub record Reach (p : Ps) (n : Clock) : Type 0 where
+  pub clock : n .0 ≤ clock-max + 2 ^ 25
+  pub period : FitPeriod p
+
+-- number 25, of each bank by its number
+pub record BanksFit (bs : List Bank) : Type 0 where
+  pub each : (i : ℕ) → FitBank (bank-at bs i)
+
+-- a call that 1, 3, 6, 7 and 25 passed
+pub record Call (t : SpeedTable) (c : Core) (bs : List Bank) (r : Record) : Type 0 where
+  pub table : Bounds t
+  pub period : FitPeriod (c .period)
+  pub core : FitCore c
+  pub banks : BanksFit bs
+  pub widths : Widths r
+
+-- a state from which so many records may still be judged
+pub record Able (u : Setup) (s : State) (count : ℕ) : Type 0 where
+  pub table : Bounds (u .table)
+  pub period : FitPeriod (s .core .period)
+  pub state : Admitted s
+  pub room : s .core .number + count ≤ number-max

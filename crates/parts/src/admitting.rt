@@ -1,0 +1,157 @@
+// Number 25: what a state may hold.
+ghost use mathlib.Core.Path.{_≡_};
+ghost use Rattle.rules.specs.Banks.{every};
+ghost use Rattle.rules.specs.Fits.{clock-fits, event-fits, status-fits, bank-fits, burst-fits, bursts-fit, bus-fits, register-fits, startup-fits, core-fits, fits};
+use crate::steps;
+use bursts::Burst;
+use bursts::Bus;
+use rules::Bank;
+use rules::Core;
+use rules::Register;
+use rules::StartUp;
+use rules::State;
+use rules::Status;
+use units::BANKS;
+use units::COLUMNS;
+use units::Clock;
+use units::Event;
+use units::ROWS;
+
+// "A clock above 2^40."
+const CLOCK_MAX: u64 = 1_099_511_627_776;
+
+// "A record number above 2^41."
+const NUMBER_MAX: u64 = 2_199_023_255_552;
+
+// "A time above 2^58 ps."
+const CLOSING_MAX: u64 = 288_230_376_151_711_744;
+
+fn clock_fits(n: Clock) -> bool
+    ensures { λ r. ⌜ r ≡ clock-fits n ⌝ }
+{
+    n.0 <= CLOCK_MAX
+}
+
+fn event_fits(e: Event) -> bool
+    ensures { λ r. ⌜ r ≡ event-fits e ⌝ }
+{
+    match e {
+        Event::Never => true,
+        Event::On(n) => clock_fits(n),
+    }
+}
+
+fn status_fits(x: Status) -> bool
+    ensures { λ r. ⌜ r ≡ status-fits x ⌝ }
+{
+    match x {
+        Status::NotStarted => true,
+        Status::Open { row, active } => {
+            let fits = clock_fits(active);
+            (row < ROWS) & fits
+        }
+        Status::Closed { closing } => closing.0 <= CLOSING_MAX,
+    }
+}
+
+fn bank_fits(b: Bank) -> bool
+    ensures { λ r. ⌜ r ≡ bank-fits b ⌝ }
+{
+    let status = b.status;
+    let active = b.active;
+    let stored = b.stored;
+    let p = status_fits(status);
+    let q = event_fits(active);
+    let s = event_fits(stored);
+    p & q & s
+}
+
+fn banks_fit(all: [Bank; 4]) -> bool
+    ensures { λ r. ⌜ r ≡ every bank-fits all ⌝ }
+{
+    let a = bank_fits(all[0]);
+    let b = bank_fits(all[1]);
+    let c = bank_fits(all[2]);
+    let d = bank_fits(all[3]);
+    a & (b & (c & d))
+}
+
+// "A reserved mode word, or a bank, row or column off the module."
+fn burst_fits(b: Burst) -> bool
+    ensures { λ r. ⌜ r ≡ burst-fits b ⌝ }
+{
+    let start = b.start;
+    let cut = b.cut;
+    let p = clock_fits(start);
+    let q = event_fits(cut);
+    let word = mode::legal(b.word);
+    (b.bank < BANKS) & (b.row < ROWS) & (b.column < COLUMNS) & p & q & word
+}
+
+fn bursts_fit(reads: [Burst; 4]) -> bool
+    ensures { λ r. ⌜ r ≡ bursts-fit reads ⌝ }
+{
+    let a = burst_fits(reads[0]);
+    let b = burst_fits(reads[1]);
+    let c = burst_fits(reads[2]);
+    let d = burst_fits(reads[3]);
+    a & (b & (c & d))
+}
+
+fn bus_fits(u: Bus) -> bool
+    ensures { λ r. ⌜ r ≡ bus-fits u ⌝ }
+{
+    let write = u.write;
+    let reads = u.reads;
+    let p = burst_fits(write);
+    let q = bursts_fit(reads);
+    p & q
+}
+
+fn register_fits(x: Register) -> bool
+    ensures { λ r. ⌜ r ≡ register-fits x ⌝ }
+{
+    match x {
+        Register::Unloaded => true,
+        Register::Loaded { word, clock } => {
+            let legal = mode::legal(word);
+            let fits = clock_fits(clock);
+            legal & fits
+        }
+    }
+}
+
+fn startup_fits(u: StartUp) -> bool
+    ensures { λ r. ⌜ r ≡ startup-fits u ⌝ }
+{
+    let all = u.allclosed;
+    let refreshes = u.refreshes;
+    let register = u.register;
+    let last = steps::last_refresh(refreshes);
+    let p = event_fits(all);
+    let q = event_fits(last);
+    let s = register_fits(register);
+    p & q & s
+}
+
+fn core_fits(c: Core) -> bool
+    ensures { λ r. ⌜ r ≡ core-fits c ⌝ }
+{
+    let last = c.last;
+    let startup = c.startup;
+    let bus = c.bus;
+    let p = event_fits(last);
+    let q = startup_fits(startup);
+    let s = bus_fits(bus);
+    (c.bank < BANKS) & (c.row < ROWS) & (c.number <= NUMBER_MAX) & p & q & s
+}
+
+pub fn fits(s: State) -> bool
+    ensures { λ r. ⌜ r ≡ fits s ⌝ }
+{
+    let core = s.core;
+    let all = s.banks;
+    let p = core_fits(core);
+    let q = banks_fit(all);
+    p & q
+}

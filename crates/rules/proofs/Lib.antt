@@ -1,0 +1,11 @@
+pub mod Tests
+pub mod Near
+pub mod Easier
+pub mod Runs
+pub mod Demand3
+pub mod Kept
+pub mod Admitted
+pub mod Stays
+pub mod OneRecord
+pub mod InTime
+pub mod Four

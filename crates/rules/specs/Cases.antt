@@ -1,0 +1,200 @@
+-- The bench cases P1 to P12 of document 01, and what they leave open: two tables under one statement each. Assumes nothing.
+use Prim.Native.Nat.{ℕ, zero, suc, _+_}
+use mathlib.Core.Bool.{Bool, true, false, _&&_}
+use mathlib.Core.List.{List, [], _∷_}
+use lib.Dec.{eqb, T}
+use Rattle.units.specs.Time.{time}
+use Rattle.speed.specs.declared.SpeedTable.{SpeedTable}
+use Rattle.speed.specs.Table.{table, grade-13E, grade-133}
+use Rattle.layout.specs.declared.Record.{Record}
+use Rattle.layout.specs.declared.Command.{Command}
+use Rattle.layout.specs.declared.Command.the-variants.{
+  Inhibit,
+  Nop,
+  Active,
+  Read,
+  Write,
+  Terminate,
+  Precharge,
+  Refresh,
+  LoadMode,
+}
+use Rattle.layout.specs.Commands.{code-of}
+use Rattle.mode.specs.Word.{length-of}
+use Rattle.mode.specs.Order.{beat-column}
+use Rattle.bursts.specs.declared.Cells.{Cells}
+use Rattle.bursts.specs.declared.Beat.{Beat}
+use Rattle.bursts.specs.declared.Beat.the-variants.{Quiet, Stores, Drives}
+use Rattle.bursts.specs.Burst.{has-beat, write-beat, read-beat, finished}
+use Rattle.bursts.specs.Bus.{masks-on, masks-after, reads-from, bus-after, beat-on, bursts-finished, driven, bus-clear}
+use Rattle.rules.specs.declared.Setup.{Setup}
+use Rattle.rules.specs.declared.Verdict.{Verdict}
+use Rattle.rules.specs.declared.Verdict.the-variants.{Taken, Refused}
+use Rattle.rules.specs.Numbers.{number-of, interval-of, tRCD, tRAS, tRC, tRP, tRRD, tRFC, tWR, tMRD}
+use Rattle.rules.specs.Parts.{start}
+use Rattle.rules.specs.StartUp.{allowed}
+use Rattle.rules.specs.Banks.{banks-found}
+use Rattle.rules.specs.Minima.{of-closing, of-any, of-active, of-access, of-precharged, of-precharge, of-idle, events, minima}
+use Rattle.rules.specs.Rules.{every-rules, place-rules, minimum-rules, mode-rules, bus-rules, command-rules, rules, ask}
+use Rattle.rules.specs.After.{
+  startup-after,
+  beat,
+  core-from,
+  core-after,
+  bank-after,
+  commanded,
+  mark-banks,
+  banks-after,
+  next,
+}
+use Rattle.rules.specs.Run.{Line, Run, run}
+
+-- ── Records, by the clocks skipped before them; CKE HIGH, the zeros zero ──
+
+abbrev pub rec : ℕ → Command → ℕ → ℕ → ℕ → Record
+rec skipped k ba addr masks =
+    record { skipped = skipped; cke = 1; code = code-of k; ba = ba; addr = addr; masks = masks; zeros = 0; dq = 0 }
+
+-- A10
+abbrev pub with-a10 : ℕ → ℕ
+with-a10 addr = addr + 1024
+
+abbrev pub all-banks : ℕ → Record
+all-banks s = rec s Precharge 0 (with-a10 0) 255
+
+abbrev pub precharge : ℕ → ℕ → Record
+precharge s b = rec s Precharge b 0 255
+
+abbrev pub refresh : ℕ → Record
+refresh s = rec s Refresh 0 0 255
+
+abbrev pub load : ℕ → ℕ → Record
+load s word = rec s LoadMode 0 word 255
+
+abbrev pub active : ℕ → ℕ → ℕ → Record
+active s b row = rec s Active b row 255
+
+-- READ, WRITE, NOP and BURST TERMINATE with all masks LOW
+abbrev pub read : ℕ → ℕ → ℕ → Record
+read s b addr = rec s Read b addr 0
+
+abbrev pub write : ℕ → ℕ → ℕ → Record
+write s b addr = rec s Write b addr 0
+
+abbrev pub nop : ℕ → ℕ → Record
+nop s masks = rec s Nop 0 0 masks
+
+abbrev pub terminate : ℕ → Record
+terminate s = rec s Terminate 0 0 0
+
+-- so many times NOP on the next clocks
+abbrev pub nops : ℕ → List Record → List Record
+nops zero rs = rs
+nops (suc n) rs = nop 0 0 ∷ nops n rs
+
+-- start-up on the earliest clocks of grade -133 with this mode word (on 13,355), and what follows
+abbrev pub up : ℕ → List Record → List Record
+up word rs = all-banks 13334 ∷ refresh 2 ∷ refresh 8 ∷ load 8 word ∷ rs
+
+-- start-up, and row 7 of bank 1 opened on clock 13,357
+abbrev pub up-active : ℕ → List Record → List Record
+up-active word rs = up word (active 1 1 7 ∷ rs)
+
+-- ── A case: a table, a period and a trace, and one thing that document 01 says of them ──
+
+pub data Case : Type 0 where
+  -- the verdict, with number and interval, and the record reported
+  refuses : (t : SpeedTable) (period : ℕ) (rs : List Record) (number interval reported : ℕ) → Case
+  -- no record is refused
+  takes : (t : SpeedTable) (period : ℕ) (rs : List Record) (count : ℕ) → Case
+  -- the columns of the reported beats, their lanes, the clocks that they stand on
+  columns : (t : SpeedTable) (period : ℕ) (rs : List Record) (expected : List ℕ) → Case
+  lanes : (t : SpeedTable) (period : ℕ) (rs : List Record) (expected : List ℕ) → Case
+  clocks : (t : SpeedTable) (period : ℕ) (rs : List Record) (expected : List ℕ) → Case
+
+abbrev pub same-numbers : List ℕ → List ℕ → Bool
+same-numbers [] [] = true
+same-numbers [] (y ∷ ys) = false
+same-numbers (x ∷ xs) [] = false
+same-numbers (x ∷ xs) (y ∷ ys) = eqb x y && same-numbers xs ys
+
+abbrev pub same-run : Run → ℕ → ℕ → ℕ → Bool
+same-run u number interval reported =
+    eqb (number-of (u .verdict)) number && eqb (interval-of (u .verdict)) interval && eqb (u .reported) reported
+
+-- f of each reported beat and its clock, in order
+abbrev pub of-beat : (ℕ → Cells → ℕ) → ℕ → Beat → List ℕ → List ℕ
+of-beat f n Quiet l = l
+of-beat f n (Stores c) l = f n c ∷ l
+of-beat f n (Drives c) l = f n c ∷ l
+
+abbrev pub of-lines : (ℕ → Cells → ℕ) → List Line → List ℕ
+of-lines f [] = []
+of-lines f (l ∷ ls) = of-beat f (l .clock .0) (l .beat) (of-lines f ls)
+
+abbrev pub run-of : SpeedTable → ℕ → List Record → Run
+run-of t period rs = run (record { table = t }) (start (time period) 0 0) rs
+
+abbrev pub right : Case → Bool
+right (refuses t p rs number interval reported) = same-run (run-of t p rs) number interval reported
+right (takes t p rs count) = same-run (run-of t p rs) 0 0 count
+right (columns t p rs expected) = same-numbers (of-lines (λ n c. c .column) (run-of t p rs .lines)) expected
+right (lanes t p rs expected) = same-numbers (of-lines (λ n c. c .lanes) (run-of t p rs .lines)) expected
+right (clocks t p rs expected) = same-numbers (of-lines (λ n c. n) (run-of t p rs .lines)) expected
+
+abbrev pub all-right : List Case → Bool
+all-right [] = true
+all-right (k ∷ ks) = right k && all-right ks
+
+-- ── P1 to P12: "Grade -133, period 7,500, earlier records legal, unless said" ──
+
+-- P12: "Own table, refresh interval 200,000,000"
+abbrev pub own-table : SpeedTable
+own-table = table 10_000 7_500 44_000 120_000_000 66_000 20_000 20_000 15_000 66_000 15_000 7_500 200_000_000 2
+
+abbrev pub bench : List Case
+bench =
+    -- P1
+    refuses grade-133 7500 (all-banks 13333 ∷ []) 14 0 0
+    ∷ takes grade-133 7500 (all-banks 13334 ∷ []) 1
+    -- P2
+    ∷ refuses grade-133 7500 (all-banks 13334 ∷ refresh 1 ∷ []) 16 tRP 1
+    ∷ takes grade-133 7500 (all-banks 13334 ∷ refresh 2 ∷ []) 2
+    -- P3
+    ∷ refuses grade-133 7500 (all-banks 13334 ∷ refresh 2 ∷ refresh 7 ∷ []) 16 tRFC 2
+    ∷ takes grade-133 7500 (all-banks 13334 ∷ refresh 2 ∷ refresh 8 ∷ []) 3
+    -- P4
+    ∷ takes grade-133 7500 (up 0x31 []) 4
+    ∷ refuses grade-133 7500 (up 0x34 []) 17 0 3
+    ∷ refuses grade-133 7500 (up 0x3f []) 17 0 3
+    ∷ refuses grade-133 7500 (up 0x21 []) 18 0 3
+    ∷ takes grade-13E 7500 (up 0x21 []) 4
+    -- P5
+    ∷ refuses grade-133 7500 (up-active 0x31 (read 1 1 0 ∷ [])) 16 tRCD 5
+    ∷ takes grade-13E 7500 (up-active 0x31 (read 1 1 0 ∷ [])) 6
+    -- P6
+    ∷ columns grade-133 7500 (up-active 0x3b (read 2 1 13 ∷ nops 12 [])) (13 ∷ 12 ∷ 15 ∷ 14 ∷ 9 ∷ 8 ∷ 11 ∷ 10 ∷ [])
+    ∷ columns grade-133 7500 (up-active 0x32 (write 2 1 6 ∷ nops 5 [])) (6 ∷ 7 ∷ 4 ∷ 5 ∷ [])
+    -- P7: column 2,046 has A11 HIGH, so its address is 3,070
+    ∷ columns grade-133 7500 (up-active 0x37 (write 2 1 3070 ∷ nops 2 [])) (2046 ∷ 2047 ∷ 0 ∷ [])
+    -- P8
+    ∷ refuses grade-133 7500 (up-active 0x30 (write 5 1 0 ∷ precharge 0 1 ∷ [])) 16 tWR 6
+    ∷ takes grade-133 7500 (up-active 0x30 (write 5 1 0 ∷ precharge 1 1 ∷ [])) 7
+    -- P9
+    ∷ refuses grade-133 9000 (up-active 0x30 (write 20 1 (with-a10 0) ∷ active 3 1 8 ∷ [])) 16 tRP 6
+    ∷ takes grade-133 9000 (up-active 0x30 (write 20 1 (with-a10 0) ∷ active 4 1 8 ∷ [])) 7
+    -- P10: READ on 13,360
+    ∷ refuses grade-133 7500 (up-active 0x32 (read 2 1 0 ∷ nops 6 (write 0 1 0 ∷ []))) 20 0 12
+    ∷ takes grade-133 7500 (up-active 0x32 (read 2 1 0 ∷ nops 7 (write 0 1 0 ∷ []))) 14
+    ∷ clocks grade-133 7500 (up-active 0x32 (read 2 1 0 ∷ nop 0 0 ∷ terminate 0 ∷ nops 5 [])) (13363 ∷ 13364 ∷ [])
+    -- P11
+    ∷ takes grade-133 7500 (all-banks 13334 ∷ refresh 2 ∷ refresh 8 ∷ nop 1040 255 ∷ []) 4
+    ∷ refuses grade-133 7500 (all-banks 13334 ∷ refresh 2 ∷ refresh 8 ∷ nop 1041 255 ∷ []) 12 0 3
+    -- P12
+    ∷ takes own-table 7500 (up-active 0x31 (nop 15999 255 ∷ [])) 6
+    ∷ refuses own-table 7500 (up-active 0x31 (nop 16000 255 ∷ [])) 13 0 5
+    ∷ []
+
+pub bench-right : T (all-right bench)
+unfolding length-of beat-column has-beat write-beat read-beat finished masks-on masks-after reads-from bus-after beat-on bursts-finished driven bus-clear allowed banks-found of-closing of-any of-active of-access of-precharged of-precharge of-idle events minima every-rules place-rules minimum-rules mode-rules bus-rules command-rules rules ask startup-after beat core-from core-after bank-after commanded mark-banks banks-after next run
+bench-right = tt

@@ -1,0 +1,16 @@
+pub mod Numbers
+pub mod Parts
+pub mod StartUp
+pub mod Banks
+pub mod Minima
+pub mod Closing
+pub mod Rules
+pub mod After
+pub mod Run
+pub mod Fits
+pub mod Admitted
+pub mod OneRecord
+pub mod Report
+pub mod Harder
+pub mod Cases
+pub mod FurtherCases

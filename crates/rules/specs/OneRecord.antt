@@ -1,0 +1,78 @@
+-- The one-record call, from bytes and a state (01, Verdicts). Definitions only.
+use Prim.Native.Nat.{ℕ}
+use mathlib.Core.Bool.{Bool, _&&_}
+use mathlib.Core.List.{List, [], _∷_}
+use lib.Dec.{leb, eqb}
+use lib.ListN.{length}
+use Rattle.units.specs.declared.Ps.{Ps}
+use Rattle.units.specs.Module.{page-bytes}
+use Rattle.speed.specs.Table.{table-fits}
+use Rattle.layout.specs.declared.Record.{Record}
+use Rattle.layout.specs.Bytes.{record-of}
+use Rattle.bursts.specs.declared.Beat.{Beat}
+use Rattle.bursts.specs.declared.Beat.the-variants.{Quiet}
+use Rattle.page.specs.Store.{stored}
+use Rattle.rules.specs.declared.State.{State}
+use Rattle.rules.specs.declared.Setup.{Setup}
+use Rattle.rules.specs.declared.Verdict.{Verdict}
+use Rattle.rules.specs.declared.Verdict.the-variants.{Taken, Refused}
+use Rattle.rules.specs.declared.Answer.{Answer}
+use Rattle.rules.specs.Numbers.{Rule, rule, first-broken}
+use Rattle.rules.specs.Rules.{ask}
+use Rattle.rules.specs.After.{own-beat, next}
+use Rattle.rules.specs.Fits.{fits}
+
+-- "period outside 1,000 to 65,535"
+abbrev pub period-fits : Ps → Bool
+period-fits p = leb 1_000 (p .0) && leb (p .0) 65_535
+
+-- 3, 6, 7 and 25, of a state and a page of so many bytes
+unfoldable pub state-rules : Setup → State → ℕ → List Rule
+state-rules u s lent =
+    rule 3 0 (period-fits (s .core .period))
+    ∷ rule 6 0 (table-fits (u .table))
+    ∷ rule 7 0 (eqb lent page-bytes)
+    ∷ rule 25 0 (fits s)
+    ∷ []
+
+-- "A record not 16 bytes long gives 1, then 3, 6, 7, 25": what is tried before the record is looked at
+unfoldable pub entry-rules : Setup → State → List ℕ → List ℕ → List Rule
+entry-rules u s bytes page = rule 1 0 (eqb (length bytes) 16) ∷ state-rules u s (length page)
+
+-- what the call leaves: "the state goes in, and the answer comes back beside the next state"; and the page
+pub record Stepped : Type 0 where
+  pub answer : Answer
+  pub next : State
+  pub page : List ℕ
+
+abbrev pub stepped : Answer → State → List ℕ → Stepped
+stepped a s page = record { answer = a; next = s; page = page }
+
+abbrev pub answer-of : ℕ → ℕ → ℕ → Beat → Answer
+answer-of number interval reported beat = record { number = number; interval = interval; reported = reported; beat = beat }
+
+-- "the refused record changes neither state nor page"
+abbrev pub refused : ℕ → ℕ → ℕ → State → List ℕ → Stepped
+refused number interval reported s page = stepped (answer-of number interval reported Quiet) s page
+
+-- "a taken record 0 and its own number"
+abbrev pub taken : Setup → State → Record → List ℕ → Stepped
+taken u s r page =
+    stepped (answer-of 0 0 (s .core .number) (own-beat s r)) (next u s r)
+    (stored (s .core .bank) (s .core .row) (r .dq) (own-beat s r) page)
+
+-- ask, and take where nothing was found: "10 and all below it report the record's number"
+unfoldable pub judged : Setup → State → Record → List ℕ → Stepped
+judged u s r page =
+    elim (ask u s r) [
+      | Taken ↦ taken u s r page
+      | Refused n i ↦ refused n i (s .core .number) s page
+    ]
+
+-- "1 to 7 and 25 leave page and state untouched, report record 0 and look at no record"
+unfoldable pub step : Setup → State → List ℕ → List ℕ → Stepped
+step u s bytes page =
+    elim (first-broken (entry-rules u s bytes page)) [
+      | Taken ↦ judged u s (record-of bytes) page
+      | Refused n i ↦ refused n i 0 s page
+    ]

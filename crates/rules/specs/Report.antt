@@ -1,0 +1,84 @@
+-- Beats as two words for each record in a lent slice of numbers, and a run of records with what it leaves. Definitions only.
+use Prim.Native.Nat.{ℕ, _+_, _*_, _/_, _%_, _^_}
+use mathlib.Core.Bool.{_&&_}
+use mathlib.Core.List.{List, [], _∷_, _++_}
+use lib.Dec.{leb, eqb}
+use lib.ListN.{length, set}
+use Rattle.layout.specs.declared.Record.{Record}
+use Rattle.layout.specs.Bytes.{records-of}
+use Rattle.bursts.specs.declared.Cells.{Cells}
+use Rattle.bursts.specs.declared.Beat.{Beat}
+use Rattle.bursts.specs.declared.Beat.the-variants.{Quiet, Stores, Drives}
+use Rattle.page.specs.Store.{stored}
+use Rattle.rules.specs.declared.State.{State}
+use Rattle.rules.specs.declared.Setup.{Setup}
+use Rattle.rules.specs.declared.Verdict.{Verdict}
+use Rattle.rules.specs.declared.Verdict.the-variants.{Taken, Refused}
+use Rattle.rules.specs.declared.Ran.{Ran}
+use Rattle.rules.specs.Numbers.{Rule, rule, first-broken}
+use Rattle.rules.specs.Rules.{ask}
+use Rattle.rules.specs.After.{own-beat, next}
+use Rattle.rules.specs.Fits.{number-max}
+use Rattle.rules.specs.Run.{Line, line}
+use Rattle.rules.specs.OneRecord.{state-rules}
+
+-- the kinds of a beat in its word: 0 none, 1 read, 2 write
+abbrev pub kind-of : Beat → ℕ
+kind-of Quiet = 0
+kind-of (Drives c) = 1
+kind-of (Stores c) = 2
+
+-- bits 0 to 7 the lanes, 8 to 23 the column, 24 to 39 the row, 40 to 47 the bank, 48 to 55 the kind
+abbrev pub cells-word : ℕ → Cells → ℕ
+cells-word kind c = kind * 2 ^ 48 + c .bank * 2 ^ 40 + c .row * 2 ^ 24 + c .column * 2 ^ 8 + c .lanes
+
+unfoldable pub beat-word : Beat → ℕ
+beat-word Quiet = 0
+beat-word (Drives c) = cells-word 1 c
+beat-word (Stores c) = cells-word 2 c
+
+-- record k's two words, where the slice has their places: the beat, and the record's clock
+unfoldable pub put-line : ℕ → Line → List ℕ → List ℕ
+put-line k l beats = set (set beats (2 * k) (beat-word (l .beat))) (2 * k + 1) (l .clock .0)
+
+-- the lines of records from number k on
+unfoldable pub lines-into : ℕ → List Line → List ℕ → List ℕ
+lines-into k [] beats = beats
+lines-into k (l ∷ ls) beats = lines-into (k + 1) ls (put-line k l beats)
+
+-- what judging records one after another leaves
+pub record Left : Type 0 where
+  pub ran : Ran
+  pub page : List ℕ
+  pub beats : List ℕ
+
+abbrev pub left : Ran → List ℕ → List ℕ → Left
+left ran page beats = record { ran = ran; page = page; beats = beats }
+
+abbrev pub ran : Verdict → ℕ → Ran
+ran v k = record { verdict = v; reported = k }
+
+-- each record asked and taken in turn, up to the first that is refused
+unfoldable pub fold : Setup → State → List Record → List ℕ → List ℕ → Left
+fold u s [] page beats = left (ran Taken (s .core .number)) page beats
+fold u s (r ∷ rs) page beats =
+    elim (ask u s r) [
+      | Taken ↦
+          fold u (next u s r) rs (stored (s .core .bank) (s .core .row) (r .dq) (own-beat s r) page)
+          (put-line (s .core .number) (line s r) beats)
+      | Refused n i ↦ left (ran (Refused n i) (s .core .number)) page beats
+    ]
+
+-- what is tried before the first of the records: 1, where the bytes are no whole records; 3, 6, 7 and 25; and 25 also where the
+-- records would take the record number past 2^41
+unfoldable pub records-rules : Setup → State → ℕ → ℕ → List Rule
+records-rules u s bytes lent =
+    rule 1 0 (eqb (bytes % 16) 0) ∷ (state-rules u s lent ++ (rule 25 0 (leb (s .core .number + bytes / 16) number-max) ∷ []))
+
+-- the call that judges the records of a lent slice from a state
+unfoldable pub records-call : Setup → State → List ℕ → List ℕ → List ℕ → Left
+records-call u s bytes page beats =
+    elim (first-broken (records-rules u s (length bytes) (length page))) [
+      | Taken ↦ fold u s (records-of (length bytes / 16) bytes) page beats
+      | Refused n i ↦ left (ran (Refused n i) 0) page beats
+    ]

@@ -1,0 +1,108 @@
+-- The verdict table for a record, rows 10 to 22 with 16 as eight rows (01, Verdicts). Definitions only.
+use Prim.Native.Nat.{ℕ, _^_}
+use mathlib.Core.Bool.{Bool, true, false, not, _&&_, _||_, cond}
+use mathlib.Core.List.{List, [], _∷_, _++_}
+use lib.Dec.{leb, eqb}
+use Rattle.units.specs.declared.Clock.{Clock}
+use Rattle.units.specs.declared.Ps.{Ps}
+use Rattle.units.specs.declared.Event.{Event}
+use Rattle.units.specs.declared.Event.the-variants.{Never, On}
+use Rattle.units.specs.Time.{at, by, plus}
+use Rattle.speed.specs.declared.SpeedTable.{SpeedTable}
+use Rattle.layout.specs.declared.Record.{Record}
+use Rattle.layout.specs.declared.Command.{Command}
+use Rattle.layout.specs.declared.Command.the-variants.{Write, Terminate, LoadMode}
+use Rattle.layout.specs.Commands.{command, is, access, executable, a10}
+use Rattle.mode.specs.Word.{legal, latency}
+use Rattle.bursts.specs.Bus.{bursts-finished, bus-clear}
+use Rattle.rules.specs.declared.Refreshes.{Refreshes}
+use Rattle.rules.specs.declared.StartUp.{StartUp}
+use Rattle.rules.specs.declared.Status.{Status}
+use Rattle.rules.specs.declared.Bank.{Bank}
+use Rattle.rules.specs.declared.Core.{Core}
+use Rattle.rules.specs.declared.State.{State}
+use Rattle.rules.specs.declared.Setup.{Setup}
+use Rattle.rules.specs.declared.Verdict.{Verdict}
+use Rattle.rules.specs.Numbers.{Rule, rule, first-broken, asked, _⇒_, tRCD, tRAS, tRC, tRP, tRRD, tRFC, tWR, tMRD}
+use Rattle.rules.specs.Parts.{clock-of, now, word}
+use Rattle.rules.specs.StartUp.{allowed, counted-refresh}
+use Rattle.rules.specs.Banks.{bank-at, every, open-within, banks-found}
+use Rattle.rules.specs.Minima.{Since, minima, met}
+use Rattle.rules.specs.Closing.{burst-end, ends-by-itself, closes-within}
+
+-- "the record's clock above 2^40"
+abbrev pub clock-max : ℕ
+clock-max = 2 ^ 40
+
+-- a maximum m is not passed at time now: "no maximum is passed" where the event is ahead
+abbrev pub within : Ps → Ps → Ps → Event → Bool
+within period m now Never = true
+within period m now (On x) = by now (plus (at period x) m)
+
+-- "tCK of the chosen latency"
+abbrev pub tCK : SpeedTable → ℕ → Ps
+tCK t w = cond (eqb (latency w) 2) (t .tck2) (t .tck3)
+
+-- READ or WRITE that asks auto precharge
+abbrev pub asks-auto : Command → Record → Bool
+asks-auto k r = access k && a10 r
+
+-- 10, 23, 11, 12 and 13 are tried on every record, here on clock n at time moment
+unfoldable pub every-rules : SpeedTable → Ps → Refreshes → List Bank → Record → Clock → Ps → List Rule
+every-rules t period refreshes bs r n moment =
+    rule 10 0 (eqb (r .zeros) 0)
+    ∷ rule 23 0 (leb (n .0) clock-max)
+    ∷ rule 11 0 (eqb (r .cke) 1)
+    ∷ rule 12 0 (within period (t .interval) moment (counted-refresh refreshes))
+    ∷ rule 13 0 (every (λ b. open-within period (t .trasmax) moment (b .status)) bs)
+    ∷ []
+
+-- 14 and 15
+unfoldable pub place-rules : Command → StartUp → List Bank → Record → Ps → List Rule
+place-rules k u bs r moment = rule 14 0 (allowed k r moment u) ∷ rule 15 0 (banks-found k (r .ba) bs) ∷ []
+
+-- 16, the lowest minimum first, for the events that they count from
+unfoldable pub minimum-rules : SpeedTable → Ps → Ps → List Since → List Rule
+minimum-rules t period moment events =
+    rule 16 tRCD (met tRCD (t .trcd) moment events)
+    ∷ rule 16 tRAS (met tRAS (t .trasmin) moment events)
+    ∷ rule 16 tRC (met tRC (t .trc) moment events)
+    ∷ rule 16 tRP (met tRP (t .trp) moment events)
+    ∷ rule 16 tRRD (met tRRD (t .trrd) moment events)
+    ∷ rule 16 tRFC (met tRFC (t .trfc) moment events)
+    ∷ rule 16 tWR (met tWR (t .twr) moment events)
+    ∷ rule 16 tMRD (met tMRD (at period (t .tmrd)) moment events)
+    ∷ []
+
+-- 17 and 18
+unfoldable pub mode-rules : Command → SpeedTable → Ps → Record → List Rule
+mode-rules k t period r =
+    rule 17 0 (is k LoadMode ⇒ legal (r .addr) && eqb (r .ba) 0)
+    ∷ rule 18 0 (is k LoadMode ⇒ by (tCK t (r .addr)) period)
+    ∷ []
+
+-- 19 to 22; `status` is that of the record's bank
+unfoldable pub bus-rules : Command → SpeedTable → Core → Status → Record → Clock → List Rule
+bus-rules k t c status r n =
+    rule 19 0 (access k || is k Terminate ⇒ bursts-finished (c .bus .write) (c .bus .reads) n)
+    ∷ rule 20 0 (is k Write ⇒ bus-clear (c .last) (c .bus .masks) (c .bus .reads) n)
+    ∷ rule 21 0 (asks-auto k r ⇒ ends-by-itself k (word c))
+    ∷ rule 22 0 (asks-auto k r ⇒ closes-within t (c .period) (burst-end k t (c .period) (word c) n) status)
+    ∷ []
+
+-- 14 to 22
+unfoldable pub command-rules : Command → SpeedTable → Core → List Bank → Record → Clock → Ps → List Rule
+command-rules k t c bs r n moment =
+    place-rules k (c .startup) bs r moment
+    ++ (minimum-rules t (c .period) moment (minima k (c .period) (c .startup) r bs)
+    ++ (mode-rules k t (c .period) r ++ bus-rules k t c (bank-at bs (r .ba) .status) r n))
+
+-- "12 and 13 are tried on every record, NOP and COMMAND INHIBIT included, 14 to 22 only on executable commands"
+unfoldable pub rules : SpeedTable → Core → List Bank → Record → Clock → Ps → List Rule
+rules t c bs r n moment =
+    every-rules t (c .period) (c .startup .refreshes) bs r n moment
+    ++ asked (executable (command r)) (command-rules (command r) t c bs r n moment)
+
+-- may this record stand here?
+unfoldable pub ask : Setup → State → Record → Verdict
+ask u s r = first-broken (rules (u .table) (s .core) (s .banks) r (clock-of (s .core) r) (now (s .core) r))
