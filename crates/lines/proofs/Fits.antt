@@ -10,7 +10,7 @@ use lib.Dec.{ltb, eqb}
 use lib.ListN.{length, take, drop, set, length-set, length-append, length-take}
 use lib.Seq.{sets, sets-eq, take-at}
 use Rattle.lines.specs.Text.{glyph, digits, field, fields, hex, beat-line, letter-of, beat-text, beat-lines, ok-line, refused-line, record-in, number-in, interval-in, last-line, report}
-use Rattle.lines.specs.Place.{Laid, laid, put, lay}
+use Rattle.lines.specs.Place.{Laid, laid, put, lay, Holds}
 
 -- ── A text that fits ──
 
@@ -21,17 +21,19 @@ lay-fits (byte ∷ text) buf at h =
     let e : at + suc (length text) ≡ suc at + length text = omega arith in
     rw (lt-ltb at (length buf) (omega arith), lay-fits text (set buf at byte) (at + 1) (simp length-set (omega arith)), e, add-one)
 
--- a buffer that holds a text from its start, of so many bytes
-pub record Holds (text buf : List ℕ) (bytes : ℕ) : Type 0 where
-  pub all : bytes ≡ length text
-  pub held : take bytes buf ≡ text
-
 pub laid-holds : (text buf after : List ℕ) (bytes : ℕ) → length text ≤ length buf → laid after bytes ≡ lay text (laid buf 0) → Holds text after bytes
 laid-holds text buf after bytes h e =
     let f = e ∙ lay-fits text buf 0 (omega arith) in
     let n : bytes ≡ length text = ap (λ (l : Laid). l .at) f ∙ omega arith in
     let b : after ≡ sets buf 0 text = ap (λ (l : Laid). l .buf) f in
     record { all = n; held = rw (b, n, sets-eq text buf 0 (omega arith)) (take-at text (drop (0 + length text) buf) (length text) refl) }
+
+module _ {text buf : List ℕ} {bytes : ℕ} (h : Holds text buf bytes) where
+  pub held-count : bytes ≡ length (take bytes buf)
+  held-count = h .all ∙ ap length (sym (h .held))
+
+  pub held-room : bytes ≤ length buf
+  held-room = omega (arith, held-count, length-take bytes buf)
 
 -- ── How long the texts are ──
 
