@@ -5,9 +5,16 @@ ghost use Rattle.lines.specs.Place.{Holds};
 ghost use Rattle.judge.specs.Output.{grade-of, printed, output};
 use layout::HeaderBytes;
 use speed::SpeedTable;
+use units::PAGE_BYTES;
 
 // The longest trace: a header and 4,095 records.
 const TRACE_MAX: usize = 65_536;
+
+// Two words for each record.
+const WORDS: usize = 8_190;
+
+// Room for the longest text, with every number at its longest: 110 bytes for each record and 71 for the last line.
+const TEXT_MAX: usize = 450_560;
 
 // "The program takes the header's grade"; with no header any grade does.
 fn grade(h: HeaderBytes) -> u8
@@ -20,12 +27,12 @@ fn grade(h: HeaderBytes) -> u8
 }
 
 // All that is printed of a trace, at the start of a buffer that has room for the longest text.
-fn print_trace(trace: &[u8], out: &mut [u8; 450560]) -> usize
+fn print_trace(trace: &[u8], out: &mut [u8; TEXT_MAX]) -> usize
     ensures { λ r. ⌜ Holds (printed (now (trace .entry))) (now (out .exit)) r ⌝ }
 {
     let t = SpeedTable::of_grade(grade(layout::read_header(trace)));
-    let mut page = [0u8; 16384];
-    let mut words = [0u64; 8190];
+    let mut page = [0u8; PAGE_BYTES];
+    let mut words = [0u64; WORDS];
     let answer = hawsehole::hawsehole_judge_beats(
         trace,
         &mut page,
@@ -48,7 +55,7 @@ fn print_trace(trace: &[u8], out: &mut [u8; 450560]) -> usize
 }
 
 // All that is printed of an input.
-fn print_input(input: &[u8], out: &mut [u8; 450560]) -> usize
+fn print_input(input: &[u8], out: &mut [u8; TEXT_MAX]) -> usize
     ensures { λ r. ⌜ Holds (output (now (input .entry))) (now (out .exit)) r ⌝ }
 {
     if TRACE_MAX < input.len() {
@@ -58,9 +65,10 @@ fn print_input(input: &[u8], out: &mut [u8; 450560]) -> usize
 }
 
 fn main() {
-    let mut input = [0u8; 65537];
+    // one byte more than the longest trace, to tell a longer one
+    let mut input = [0u8; TRACE_MAX + 1];
     let n = io::read_full(0, &mut input);
-    let mut out = [0u8; 450560];
+    let mut out = [0u8; TEXT_MAX];
     let bytes = print_input(&input[..n], &mut out);
     io::write_all(1, &out[..bytes]);
 }
