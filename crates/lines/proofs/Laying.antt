@@ -1,12 +1,12 @@
 -- Text laid part by part. Assumes nothing.
-use mathlib.Core.Path.{_≡_, refl}
+use mathlib.Core.Path.{_≡_, refl, ap, sym, _∙_}
 use mathlib.Core.List.{List, [], _∷_, _++_}
 use Prim.Native.Nat.{ℕ, suc, _+_, _≤_, _<_}
 use native.Mathlib.Numerals.{add-one}
 use lib.ListN.{length, drop, getD, drop-of-length-le}
 use lib.Seq.{drop-cons}
 use Rattle.lines.specs.Text.{field, fields}
-use Rattle.lines.specs.Place.{Laid, put, lay}
+use Rattle.lines.specs.Place.{Laid, laid, put, lay}
 
 pub lay-append : (a b : List ℕ) (l : Laid) → lay (a ++ b) l ≡ lay b (lay a l)
 unfolding lay
@@ -16,6 +16,10 @@ lay-append (byte ∷ a) b l = lay-append a b (put byte l)
 pub lay-one : (byte : ℕ) (l : Laid) → lay (byte ∷ []) l ≡ put byte l
 unfolding lay
 lay-one byte l = refl
+
+-- ONE ANSWER ONLY: a promise that says where a text was laid fixes the place after it and every byte of the buffer
+pub laid-only : {l : Laid} {a b : List ℕ} {i j : ℕ} → laid a i ≡ l → laid b j ≡ l → (a ≡ b) × (i ≡ j)
+laid-only h g = (ap (λ (l : Laid). l .buf) (h ∙ sym g), ap (λ (l : Laid). l .at) (h ∙ sym g))
 
 -- ── A text, byte by byte ──
 

@@ -6,7 +6,7 @@ ghost use Rattle.lines.specs.Text.{glyph, digits, decimal, hex, field, f
 ghost use Rattle.lines.specs.Place.{laid, put, lay};
 
 // One byte.
-pub fn put(byte: u8, buf: &mut [u8], at: usize) -> usize
+fn put(byte: u8, buf: &mut [u8], at: usize) -> usize
     ensures { λ r. ⌜ laid (now (buf .exit)) r ≡ put byte (laid (now (buf .entry)) at) ⌝ }
 {
     if at < buf.len() {
@@ -25,7 +25,7 @@ fn glyph(d: u64) -> u8
 }
 
 // The last `places` decimal digits of n, with no zeros in front.
-pub fn put_digits(places: usize, n: u64, buf: &mut [u8], at: usize) -> usize
+fn put_digits(places: usize, n: u64, buf: &mut [u8], at: usize) -> usize
     ensures { λ r. ⌜ laid (now (buf .exit)) r ≡ lay (digits places n) (laid (now (buf .entry)) at) ⌝ }
 {
     if places == 0 {
@@ -39,7 +39,7 @@ pub fn put_digits(places: usize, n: u64, buf: &mut [u8], at: usize) -> usize
 }
 
 // A number in decimal.
-pub fn put_decimal(n: u64, buf: &mut [u8], at: usize) -> usize
+fn put_decimal(n: u64, buf: &mut [u8], at: usize) -> usize
     ensures { λ r. ⌜ laid (now (buf .exit)) r ≡ lay (decimal n) (laid (now (buf .entry)) at) ⌝ }
 {
     put_digits(20, n, buf, at)
@@ -59,7 +59,7 @@ pub fn put_text(text: &[u8], buf: &mut [u8], at: usize) -> usize
 }
 
 // A space and a number.
-pub fn put_field(n: u64, buf: &mut [u8], at: usize) -> usize
+fn put_field(n: u64, buf: &mut [u8], at: usize) -> usize
     ensures { λ r. ⌜ laid (now (buf .exit)) r ≡ lay (field n) (laid (now (buf .entry)) at) ⌝ }
 {
     let next = put(b' ', buf, at);
@@ -80,7 +80,7 @@ pub fn put_fields(numbers: &[u64], buf: &mut [u8], at: usize) -> usize
 }
 
 // Lanes as two hex digits, lane 7 the top bit.
-pub fn put_hex(lanes: u8, buf: &mut [u8], at: usize) -> usize
+fn put_hex(lanes: u8, buf: &mut [u8], at: usize) -> usize
     ensures { λ r. ⌜ laid (now (buf .exit)) r ≡ lay (hex lanes) (laid (now (buf .entry)) at) ⌝ }
 {
     let next = put(glyph((lanes / 16) as u64), buf, at);
@@ -88,7 +88,7 @@ pub fn put_hex(lanes: u8, buf: &mut [u8], at: usize) -> usize
 }
 
 // A beat's line, with its letter and its numbers: record, clock, bank, row, column.
-pub fn put_beat_line(letter: u8, numbers: &[u64], lanes: u8, buf: &mut [u8], at: usize) -> usize
+fn put_beat_line(letter: u8, numbers: &[u64], lanes: u8, buf: &mut [u8], at: usize) -> usize
     ensures { λ r. ⌜ laid (now (buf .exit)) r ≡ lay (beat-line letter (now (numbers .entry)) lanes) (laid (now (buf .entry)) at) ⌝ }
 {
     let lettered = put(letter, buf, at);
@@ -106,7 +106,7 @@ fn letter(kind: u64) -> u8
 }
 
 // The line of record k, from the two words that the judge writes of it; nothing where they hold no beat.
-pub fn put_beat(k: u64, word: u64, clock: u64, buf: &mut [u8], at: usize) -> usize
+fn put_beat(k: u64, word: u64, clock: u64, buf: &mut [u8], at: usize) -> usize
     ensures { λ r. ⌜ laid (now (buf .exit)) r ≡ lay (beat-text k word clock) (laid (now (buf .entry)) at) ⌝ }
 {
     let kind = word / 281_474_976_710_656 % 256;
@@ -135,7 +135,7 @@ pub fn put_beats(words: &[u64], buf: &mut [u8], at: usize) -> usize
 }
 
 // `OK` with the record count.
-pub fn put_ok(count: u64, buf: &mut [u8], at: usize) -> usize
+fn put_ok(count: u64, buf: &mut [u8], at: usize) -> usize
     ensures { λ r. ⌜ laid (now (buf .exit)) r ≡ lay (ok-line count) (laid (now (buf .entry)) at) ⌝ }
 {
     let worded = put_text(b"OK", buf, at);
@@ -144,7 +144,7 @@ pub fn put_ok(count: u64, buf: &mut [u8], at: usize) -> usize
 }
 
 // `REFUSED` with its numbers: record, number, interval.
-pub fn put_refused(numbers: &[u64], buf: &mut [u8], at: usize) -> usize
+fn put_refused(numbers: &[u64], buf: &mut [u8], at: usize) -> usize
     ensures { λ r. ⌜ laid (now (buf .exit)) r ≡ lay (refused-line (now (numbers .entry))) (laid (now (buf .entry)) at) ⌝ }
 {
     let worded = put_text(b"REFUSED", buf, at);
