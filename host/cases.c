@@ -55,17 +55,37 @@ void run_case(judge_function *judge, const struct test_case *c, struct outcome *
                         c->table);
 }
 
-bool same_outcome(const struct test_case *c, const struct outcome *a, const struct outcome *b,
-                  const char **what)
+/* Whether the watched beats from this one on are as they were. */
+static bool untouched_from(const struct test_case *c, const struct outcome *out, size_t from)
 {
-    *what = "";
+    for (size_t i = from; i < watched_beats(c); i++)
+        if (out->beats[i] != UNTOUCHED)
+            return false;
+    return true;
+}
+
+static bool same_beats(const struct test_case *c, const struct outcome *a, const struct outcome *b)
+{
+    return memcmp(a->beats, b->beats, watched_beats(c) * sizeof a->beats[0]) == 0;
+}
+
+const char *difference(const struct test_case *c, const struct outcome *a, const struct outcome *b,
+                       bool beats)
+{
     if (a->answer != b->answer)
-        *what = "answer";
-    else if (memcmp(a->beats, b->beats, watched_beats(c) * sizeof a->beats[0]) != 0)
-        *what = "beats";
-    else if (memcmp(a->page, b->page, CASE_PAGE_ROOM) != 0)
-        *what = "page";
-    return **what == '\0';
+        return "answer";
+    if (beats ? !same_beats(c, a, b) : !untouched_from(c, b, 0))
+        return "beats";
+    return memcmp(a->page, b->page, CASE_PAGE_ROOM) != 0 ? "page" : NULL;
+}
+
+bool kept_alone(const struct test_case *c, const struct outcome *out)
+{
+    size_t words = 2 * records_taken(out->answer);
+    uint32_t number = answer_number(out->answer);
+    size_t lent = number >= 1 && number <= 7 ? 0 : c->page_len;
+    return untouched_from(c, out, words < c->beats_len ? words : c->beats_len) &&
+           memcmp(out->page + lent, c->page + lent, CASE_PAGE_ROOM - lent) == 0;
 }
 
 static void count_beats(struct case_counts *counts, const struct test_case *c,

@@ -62,9 +62,14 @@ void fill_page(struct test_case *c, const uint8_t *bytes, size_t count);
 
 void run_case(judge_function *judge, const struct test_case *c, struct outcome *out);
 
-/* Whether two judges left the same; where they did not, `what` names the part. */
-bool same_outcome(const struct test_case *c, const struct outcome *a, const struct outcome *b,
-                  const char **what);
+/* The part in which two judges left something else, NULL for none. With no beats
+ * the second of them must have left these as they were. */
+const char *difference(const struct test_case *c, const struct outcome *a, const struct outcome *b,
+                       bool beats);
+
+/* Whether beats past those of the records taken, all beats and bytes past the
+ * lent ones, and the page of a trace refused by 1 to 7 are as they were. */
+bool kept_alone(const struct test_case *c, const struct outcome *out);
 
 void count_case(struct case_counts *counts, const struct test_case *c, const struct outcome *out);
 void print_counts(const struct case_counts *counts, FILE *to);

@@ -23,8 +23,8 @@ uint32_t ask_at(const struct making *m, const struct draft *r, uint64_t skip)
 
 void put(struct making *m, const struct draft *r)
 {
-    uint8_t *bytes = m->c->trace + 16 + 16 * m->records;
-    if (16 + 16 * (m->records + 1) > CASE_TRACE_ROOM)
+    uint8_t *bytes = m->trace + 16 + 16 * m->records;
+    if (16 + 16 * (m->records + 1) > m->room)
         return;
     encode(r, r->skip, bytes);
     m->records++;
@@ -34,6 +34,15 @@ void put(struct making *m, const struct draft *r)
         plain_take(&m->d, bytes);
     else
         m->refused = true;
+}
+
+/* version 8, period 24, count 16, grade 8, bank 2, row 13, zeros 57 */
+size_t write_header(const struct making *m, uint64_t grade)
+{
+    store64(m->trace, (uint64_t)1 << 56 | m->d.period << 32 | (uint64_t)m->records << 16 |
+                          grade << 8 | m->watched_bank << 6 | m->watched_row >> 7);
+    store64(m->trace + 8, m->watched_row << 57);
+    return 16 + 16 * m->records;
 }
 
 /* ---- Looking for a clock ---- */

@@ -3,7 +3,6 @@
 #ifndef DRAFT_H
 #define DRAFT_H
 
-#include "cases.h"
 #include "plain.h"
 #include "random.h"
 
@@ -29,7 +28,8 @@ struct draft {
 
 struct making {
     struct random random;
-    struct test_case *c;
+    uint8_t *trace; /* header and records, in so many bytes at most */
+    size_t room;
     struct plain_device d; /* after the records so far, while none is refused */
     uint64_t watched_bank;
     uint64_t watched_row;
@@ -43,6 +43,9 @@ uint32_t ask_at(const struct making *m, const struct draft *r, uint64_t skip);
 
 /* Writes the record down as it is. */
 void put(struct making *m, const struct draft *r);
+
+/* Writes the header of the records put so far; the length of the trace. */
+size_t write_header(const struct making *m, uint64_t grade);
 
 /* The least skip at which the record is no longer too soon (its verdict is
  * none of 14, 16, 19, 20 that waiting cures); false if there is none. */

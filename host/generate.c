@@ -240,24 +240,7 @@ static void make_wild_records(struct making *m)
     }
 }
 
-/* ---- Header and damage ---- */
-
-static void write_header(const struct making *m, uint64_t grade)
-{
-    uint8_t *h = m->c->trace;
-    uint64_t bank_row = m->watched_bank << 14 | m->watched_row << 1;
-    memset(h, 0, 16);
-    h[0] = 1;
-    h[1] = (uint8_t)(m->d.period >> 16);
-    h[2] = (uint8_t)(m->d.period >> 8);
-    h[3] = (uint8_t)m->d.period;
-    h[4] = (uint8_t)(m->records >> 8);
-    h[5] = (uint8_t)m->records;
-    h[6] = (uint8_t)grade;
-    h[7] = (uint8_t)(bank_row >> 8);
-    h[8] = (uint8_t)bank_row;
-    m->c->trace_len = 16 + 16 * m->records;
-}
+/* ---- Damage ---- */
 
 static void damage_length(struct random *r, struct test_case *c)
 {
@@ -369,20 +352,35 @@ static void lend_page(struct random *r, struct test_case *c)
     fill_page(c, bytes, sizeof bytes);
 }
 
-/* Mostly two words for each record; sometimes fewer, an odd number, or more. */
+/* Mostly two words for each record; sometimes none, one too few, any number of
+ * them, or some too many. */
 static void lend_beats(struct random *r, struct test_case *c)
 {
     size_t wanted = 2 * (c->trace_len / 16);
     c->beats_len = wanted;
-    if (random_chance(r, 60))
-        c->beats_len = (size_t)random_below(r, wanted + 4);
+    if (random_chance(r, 900))
+        return;
+    switch (random_below(r, 4)) {
+    case 0:
+        c->beats_len = 0;
+        break;
+    case 1:
+        c->beats_len = wanted == 0 ? 0 : wanted - 1;
+        break;
+    case 2:
+        c->beats_len = (size_t)random_below(r, wanted + 1);
+        break;
+    default:
+        c->beats_len = wanted + (size_t)random_below(r, 4);
+    }
 }
 
 void generate(uint64_t seed, struct test_case *c)
 {
     struct making m;
     m.random.state = seed * 0xD1342543DE82EF95;
-    m.c = c;
+    m.trace = c->trace;
+    m.room = sizeof c->trace;
     m.records = 0;
     m.refused = false;
     m.watched_bank = random_below(&m.random, 4);
@@ -398,7 +396,7 @@ void generate(uint64_t seed, struct test_case *c)
         make_wild_records(&m);
     else
         make_records(&m, aim);
-    write_header(&m, grade);
+    c->trace_len = write_header(&m, grade);
     lend_page(&m.random, c);
     if (damaged)
         damage_case(&m.random, c);
