@@ -1,0 +1,81 @@
+/* Writes inputs to start a fuzzer with.
+ *
+ *   seeds FOLDER [TRACE...]
+ *
+ * One for each trace, under the table of its header's grade, and generated ones:
+ * the shortest of some for each number and each interval. */
+#include "../generate.h"
+#include "../judges.h"
+#include "../../include/hawsehole.h"
+#include "input.h"
+
+#include <string.h>
+
+enum { TRIED = 20000 };
+
+static bool write_input(const char *folder, const char *name, const struct test_case *c)
+{
+    static uint8_t bytes[INPUT_ROOM];
+    char path[1024];
+    size_t count = input_from_case(c, bytes);
+    snprintf(path, sizeof path, "%s/%s", folder, name);
+    FILE *file = fopen(path, "wb");
+    if (file == NULL)
+        return false;
+    bool whole = fwrite(bytes, 1, count, file) == count;
+    return fclose(file) == 0 && whole;
+}
+
+static bool write_generated(const char *folder)
+{
+    static struct test_case c;
+    static struct outcome out;
+    static size_t least[CASE_NUMBERS][CASE_INTERVALS];
+    bool written = true;
+    for (uint64_t seed = 1; seed <= TRIED; seed++) {
+        generate(seed, &c);
+        run_case(judges[0].judge, &c, &out);
+        uint32_t number = answer_number(out.answer) % CASE_NUMBERS;
+        uint32_t interval = answer_interval(out.answer) % CASE_INTERVALS;
+        if (least[number][interval] != 0 && least[number][interval] <= c.trace_len)
+            continue;
+        char name[32];
+        least[number][interval] = c.trace_len;
+        snprintf(name, sizeof name, "number-%u-%u", number, interval);
+        written = write_input(folder, name, &c) && written;
+    }
+    return written;
+}
+
+/* The trace of a file, with all that it needs lent. */
+static bool read_trace(const char *name, struct test_case *c)
+{
+    static const uint64_t grade[2][13] = {{HAWSEHOLE_GRADE_13E}, {HAWSEHOLE_GRADE_133}};
+    FILE *file = fopen(name, "rb");
+    if (file == NULL)
+        return false;
+    c->trace_len = fread(c->trace, 1, sizeof c->trace, file);
+    fclose(file);
+    memcpy(c->table, grade[c->trace_len > 6 && c->trace[6] == 1 ? 0 : 1], sizeof c->table);
+    c->page_len = HAWSEHOLE_PAGE_BYTES;
+    c->beats_len = 2 * (c->trace_len / 16);
+    return true;
+}
+
+int main(int argc, char **argv)
+{
+    static struct test_case c;
+    if (argc < 2) {
+        fprintf(stderr, "usage: seeds FOLDER [TRACE...]\n");
+        return 2;
+    }
+    bool written = write_generated(argv[1]);
+    for (int i = 2; i < argc; i++) {
+        char name[32];
+        snprintf(name, sizeof name, "trace-%d", i - 1);
+        written = read_trace(argv[i], &c) && write_input(argv[1], name, &c) && written;
+    }
+    if (!written)
+        fprintf(stderr, "seeds: some file could not be read or written\n");
+    return written ? 0 : 1;
+}
