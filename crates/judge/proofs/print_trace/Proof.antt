@@ -32,7 +32,14 @@ report-requires : tie.Need-report-requires
 report-requires c κs = search needs
 
 returns : tie.Need-returns
-returns c = let room : length (c .before .before .before .before .before .before .before .before .before .before .before .before .args .out .now) ≡ 450560 = search needs in printed-held (c .before .before .before .before .before .before .before .before .before .before .before .before .args .trace .now) _ _ _ _ _ (c .before .before .before .before .before .hawsehole-judge-beats .last .1 .1 .0) (c .before .before .before .before .before .before .before .before .before .before .before .before .args .out .now) _ _ (c .before .before .before .before .before .before .before .before .before .before .read-header .ensures) (c .before .before .before .before .before .before .before .before .before .grade .ensures) (c .before .before .before .before .before .before .before .before .of-grade .ensures) (c .before .before .before .before .before .hawsehole-judge-beats .ensures) (c .before .before .before .before .before .hawsehole-judge-beats .kept .1 .1 .0 ∙ length-replicate {A = ℕ} 8190 0) room (c .report .ensures)
+returns c =
+    let args = c .before .before .before .before .before .before .before .before .before .before .before .before .args in
+    let judged = c .before .before .before .before .before .hawsehole-judge-beats in
+    let words = judged .last .1 .1 .0 in
+    let room : length (args .out .now) ≡ 450560 = search needs in
+    let full : length words ≡ 8190 = judged .kept .1 .1 .0 ∙ length-replicate {A = ℕ} 8190 0 in
+    printed-held (args .trace .now) _ _ _ _ _ words (args .out .now) _ _ (c .before .before .before .before .before .before .before .before .before .before .read-header .ensures) (c .before .before .before .before .before .before .before .before .before .grade .ensures)
+    (c .before .before .before .before .before .before .before .before .of-grade .ensures) (judged .ensures) full room (c .report .ensures)
 
 pub print-trace-spec : {M : Type 1} → statement M
 print-trace-spec =
