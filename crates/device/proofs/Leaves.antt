@@ -44,11 +44,11 @@ use Rattle.rules.specs.After.{
 }
 use Rattle.rules.proofs.Four.{four}
 
-each-four : (f : ℕ → Bank → Bank) (l : List Bank) → length l ≡ 4
+pub each-four : (f : ℕ → Bank → Bank) (l : List Bank) → length l ≡ 4
     → each-bank f 0 l ≡ (f 0 (bank-at l 0) ∷ f 1 (bank-at l 1) ∷ f 2 (bank-at l 2) ∷ f 3 (bank-at l 3) ∷ [])
 each-four f l h = ap (each-bank f 0) (four l h)
 
-each-same : (f : ℕ → Bank → Bank) (i : ℕ) (l : List Bank) → ((i : ℕ) (b : Bank) → f i b ≡ b) → each-bank f i l ≡ l
+pub each-same : (f : ℕ → Bank → Bank) (i : ℕ) (l : List Bank) → ((i : ℕ) (b : Bank) → f i b ≡ b) → each-bank f i l ≡ l
 each-same f i [] h = refl
 each-same f i (b ∷ l) h = rw (h i b, each-same f (ℕ.suc i) l h)
 

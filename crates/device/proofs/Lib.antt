@@ -1,4 +1,5 @@
 pub mod Leaves
+pub mod InPlace
 pub mod Starts
 pub mod Turns
 pub mod Folds

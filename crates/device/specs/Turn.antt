@@ -10,8 +10,6 @@ use Rattle.rules.specs.declared.Verdict.the-variants.{Taken, Refused}
 use Rattle.device.specs.declared.Turn.{Turn}
 use Rattle.rules.specs.Rules.{ask}
 use Rattle.rules.specs.After.{own-beat, next}
-use Rattle.rules.specs.Run.{line}
-use Rattle.rules.specs.Report.{put-line}
 
 -- what a turn leaves: verdict, beat and state, and the page
 pub record Turned : Type 0 where
@@ -29,23 +27,4 @@ turn-of u s r page =
           turned (record { verdict = Taken; beat = own-beat s r; next = next u s r })
           (stored (s .core .bank) (s .core .row) (r .dq) (own-beat s r) page)
       | Refused n i ↦ turned (record { verdict = Refused n i; beat = Quiet; next = s }) page
-    ]
-
--- a turn that reports: what it leaves of page and beats
-pub record Lined : Type 0 where
-  pub turn : Turn
-  pub page : List ℕ
-  pub beats : List ℕ
-
-abbrev pub lined : Turn → List ℕ → List ℕ → Lined
-lined t page beats = record { turn = t; page = page; beats = beats }
-
-unfoldable pub line-turn : Setup → State → Record → List ℕ → List ℕ → Lined
-line-turn u s r page beats =
-    elim (ask u s r) [
-      | Taken ↦
-          lined (record { verdict = Taken; beat = own-beat s r; next = next u s r })
-          (stored (s .core .bank) (s .core .row) (r .dq) (own-beat s r) page)
-          (put-line (s .core .number) (line s r) beats)
-      | Refused n i ↦ lined (record { verdict = Refused n i; beat = Quiet; next = s }) page beats
     ]

@@ -10,12 +10,24 @@ ghost use Rattle.parts.specs.Reach.{FitPeriod, BanksFit};
 ghost use Rattle.rules.specs.Admitted.{FitBank, FitStatus};
 ghost use Rattle.rules.specs.Fits.{number-max};
 ghost use Rattle.rules.specs.Rules.{asks-auto};
+ghost use Rattle.units.specs.Time.{at};
+ghost use Rattle.rules.specs.Parts.{word-in};
+ghost use Rattle.rules.specs.StartUp.{begun};
+ghost use Rattle.rules.specs.Banks.{row-of};
+ghost use Rattle.rules.specs.Closing.{burst-end};
+ghost use Rattle.rules.specs.Rules.{clock-max};
+ghost use Rattle.bursts.specs.Bus.{bus-after};
+ghost use Rattle.device.specs.Marks.{stores-byte, bank-of};
 ghost use Rattle.rules.specs.After.{one-more, startup-after, core-from, with-status, precharged, auto-closed, activated, bank-after, marked, commanded, mark-banks};
 use bursts::Beat;
 use bursts::Bus;
+use bursts::databus;
 use layout::Command;
 use layout::Record;
+use parts::banks;
 use parts::closing;
+use parts::steps;
+use parts::time;
 use rules::Bank;
 use rules::Core;
 use rules::Refreshes;
@@ -23,6 +35,7 @@ use rules::Register;
 use rules::StartUp;
 use rules::Status;
 use speed::SpeedTable;
+use units::BANKS;
 use units::Clock;
 use units::Event;
 use units::Ps;
@@ -60,7 +73,7 @@ fn register_if(x: bool, word: u16, n: Clock, old: Register) -> Register
     }
 }
 
-fn startup_after(k: Command, r: Record, n: Clock, u: StartUp) -> StartUp
+pub fn startup_after(k: Command, r: Record, n: Clock, u: StartUp) -> StartUp
     ensures { λ x. ⌜ x ≡ startup-after k r n u ⌝ }
 {
     let code = layout::code_of(k);
@@ -155,7 +168,7 @@ fn activated(row: u16, n: Clock) -> Bank
     }
 }
 
-fn marked(x: bool, n: Clock, b: Bank) -> Bank
+pub fn marked(x: bool, n: Clock, b: Bank) -> Bank
     ensures { λ r. ⌜ r ≡ marked x n b ⌝ }
 {
     let status = b.status;
@@ -170,7 +183,7 @@ fn marked(x: bool, n: Clock, b: Bank) -> Bank
 }
 
 // Bank i after the command.
-fn bank_after(
+pub fn bank_after(
     k: Command,
     t: SpeedTable,
     period: Ps,
@@ -245,4 +258,88 @@ pub fn mark_banks(w: Beat, n: Clock, all: [Bank; 4]) -> [Bank; 4]
     let c = marked(w.stores_in(2), n, all[2]);
     let d = marked(w.stores_in(3), n, all[3]);
     [a, b, c, d]
+}
+
+// The bus after the command, with the mode word and the open row that it finds.
+pub fn bus_moved(k: Command, r: Record, n: Clock, startup: StartUp, own: Bank, bus: Bus) -> Bus
+    ensures { λ x. ⌜ x ≡ bus-after k r n (word-in (startup .register)) (row-of (own .status)) bus ⌝ }
+{
+    let register = startup.register;
+    let status = own.status;
+    let word = steps::word_in(register);
+    let row = banks::row_of(status);
+    databus::bus_after(k, r, n, word, row, bus)
+}
+
+// The record's own bank after the command.
+pub fn bank_moved(
+    k: Command,
+    t: SpeedTable,
+    period: Ps,
+    startup: StartUp,
+    r: Record,
+    n: Clock,
+    own: Bank,
+) -> Bank
+    requires { ⌜ Bounds t × FitPeriod period × FitBank own × (n .0 ≤ clock-max) ⌝ }
+    ensures { λ x. ⌜ x ≡ bank-after k t period (burst-end k t period (word-in (startup .register)) n) (begun startup) r n (at period n) (r .ba) own ⌝ }
+{
+    let register = startup.register;
+    let word = steps::word_in(register);
+    let now = time::at(period, n);
+    let end = closing::burst_end(k, t, period, word, n);
+    let again = steps::begun(startup);
+    bank_after(k, t, period, end, again, r, n, now, r.ba, own)
+}
+
+// The four banks after the command.
+pub fn banks_moved(
+    k: Command,
+    t: SpeedTable,
+    period: Ps,
+    startup: StartUp,
+    r: Record,
+    n: Clock,
+    all: [Bank; 4],
+) -> [Bank; 4]
+    requires { ⌜ Bounds t × FitPeriod period × BanksFit all × (n .0 ≤ clock-max) ⌝ }
+    ensures { λ x. ⌜ x ≡ commanded k t period (burst-end k t period (word-in (startup .register)) n) (begun startup) r n (at period n) all ⌝ }
+{
+    let register = startup.register;
+    let word = steps::word_in(register);
+    let now = time::at(period, n);
+    let end = closing::burst_end(k, t, period, word, n);
+    let again = steps::begun(startup);
+    commanded(k, t, period, end, again, r, n, now, all)
+}
+
+// The beat stores a byte in a bank of the module.
+pub fn stores(w: Beat) -> bool
+    ensures { λ x. ⌜ x ≡ stores-byte w ⌝ }
+{
+    match w {
+        Beat::Quiet => false,
+        Beat::Stores(c) => (c.lanes != 0) & (c.bank < BANKS),
+        Beat::Drives(_) => false,
+    }
+}
+
+// The bank of a WRITE's beat.
+pub fn bank_of(w: Beat) -> u8
+    ensures { λ x. ⌜ x ≡ bank-of w ⌝ }
+{
+    match w {
+        Beat::Quiet => 0,
+        Beat::Stores(c) => c.bank,
+        Beat::Drives(_) => 0,
+    }
+}
+
+// ACTIVE, and a READ or WRITE with auto precharge, touch their own bank alone.
+pub fn touches_own(k: Command, r: Record) -> bool
+    ensures { λ x. ⌜ x ≡ (is k Active || asks-auto k r) ⌝ }
+{
+    let code = layout::code_of(k);
+    let auto = layout::is_access(k) & layout::a10(r.addr);
+    (code == 3) | auto
 }

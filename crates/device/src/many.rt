@@ -8,15 +8,16 @@ ghost use Rattle.rules.specs.Parts.{start};
 ghost use Rattle.rules.specs.Fits.{number-max};
 ghost use Rattle.parts.specs.Reach.{Able};
 ghost use Rattle.rules.specs.Report.{beat-word, cells-word, put-line, left, fold, records-rules, records-call};
-ghost use Rattle.device.specs.Turn.{lined, line-turn};
+ghost use Rattle.device.specs.InPlace.{whole, state-of};
 use crate::Device;
-use crate::Turn;
-use crate::call;
+use crate::leaving;
 use crate::single;
 use bursts::Beat;
 use bursts::Bus;
 use bursts::Cells;
-use layout::RecordBytes;
+use bursts::databus;
+use bursts::reads;
+use layout::Record;
 use parts::time;
 use rules::Bank;
 use rules::Core;
@@ -75,60 +76,110 @@ fn report(beats: &mut [u64], k: u64, beat: Beat, n: Clock)
     put(beats, at + 1, n.0);
 }
 
-// The turn of one record that is read from its bytes, and reported where it is taken.
-fn line_turn(u: Setup, s: State, part: &[u8], page: &mut [u8], beats: &mut [u64]) -> Turn
-    requires { ⌜ (length (now part) ≡ 16) × Able u s 1 ⌝ }
-    ensures { λ x. ⌜ lined x (now (page .exit)) (now (beats .exit)) ≡ line-turn u s (record-of (now (part .entry))) (now (page .entry)) (now (beats .entry)) ⌝ }
+// Record r of the 16 bytes of `part`.
+fn record_in(part: &[u8]) -> Record
+    requires { ⌜ length (now part) ≡ 16 ⌝ }
+    ensures { λ x. ⌜ x ≡ record-of (now (part .entry)) ⌝ }
 {
-    let RecordBytes::Whole(r) = layout::read_record(part) else {
-        let verdict = Verdict::refused(1);
-        let beat = Beat::Quiet;
-        return Turn {
-            verdict,
-            beat,
-            next: s,
-        };
-    };
-    let core = s.core;
-    let last = core.last;
-    let turn = call::turn(u, s, r, page);
-    let v = turn.verdict;
-    let Verdict::Taken = v else {
-        return turn;
-    };
-    let n = time::clock_of(last, r.skipped);
-    let beat = turn.beat;
-    report(beats, core.number, beat, n);
-    turn
+    let first = layout::first_word(part);
+    let second = layout::first_word(&part[8..16]);
+    layout::record_from(first, second)
 }
 
-// `count` records from a state, each in its turn, up to the first that is refused.
-fn fold(u: Setup, s: State, bytes: &[u8], count: usize, page: &mut [u8], beats: &mut [u64]) -> Ran
-    requires { ⌜ (length (now bytes) ≡ 16 * count) × Able u s count ⌝ }
-    ensures { λ x. ⌜ left x (now (page .exit)) (now (beats .exit)) ≡ fold u s (records-of count (now (bytes .entry))) (now (page .entry)) (now (beats .entry)) ⌝ }
+// The state whose parts these are; period, watched bank and row stay as they are in c.
+fn state_of(
+    c: Core,
+    number: u64,
+    last: Event,
+    startup: StartUp,
+    bus: Bus,
+    banks: [Bank; 4],
+) -> State
+    ensures { λ x. ⌜ x ≡ state-of c number last startup bus banks ⌝ }
 {
-    let mut st = s;
-    let mut k = 0;
-    while k < count {
-        let core = st.core;
-        let at = 16 * k;
-        let turn = line_turn(u, st, &bytes[at..at + 16], page, beats);
-        let v = turn.verdict;
+    let period = c.period;
+    let core = Core {
+        period,
+        bank: c.bank,
+        row: c.row,
+        number,
+        last,
+        startup,
+        bus,
+    };
+    State { core, banks }
+}
+
+// `count` records from a state, each asked and taken in its turn, up to the first that is refused. The state is held in its
+// parts and changed in place: most records leave most of it, and to build it anew for each cost more than judging it.
+fn fold(
+    u: Setup,
+    core: Core,
+    banks: [Bank; 4],
+    bytes: &[u8],
+    count: usize,
+    page: &mut [u8],
+    beats: &mut [u64],
+) -> Ran
+    requires { ⌜ (length (now bytes) ≡ 16 * count) × Able u (whole core banks) count ⌝ }
+    ensures { λ x. ⌜ left x (now (page .exit)) (now (beats .exit)) ≡ fold u (whole core banks) (records-of count (now (bytes .entry))) (now (page .entry)) (now (beats .entry)) ⌝ }
+{
+    let t = u.table;
+    let period = core.period;
+    let mut number = core.number;
+    let mut last = core.last;
+    let mut startup = core.startup;
+    let mut bus = core.bus;
+    let mut all = banks;
+    let mut j = 0;
+    while j < count {
+        let at = 16 * j;
+        let r = record_in(&bytes[at..at + 16]);
+        let st = state_of(core, number, last, startup, bus, all);
+        let v = asking::ask(u, st, r);
         let Verdict::Taken = v else {
             return Ran {
                 verdict: v,
-                reported: core.number,
+                reported: number,
             };
         };
-        let next = turn.next;
-        st = next;
-        k += 1;
+        let held = bus.masks;
+        let n = time::clock_of(last, r.skipped);
+        let k = layout::command_of(r.code);
+        if reads::can_end(k) {
+            let own = all[r.ba as usize];
+            bus = leaving::bus_moved(k, r, n, startup, own, bus);
+        } else {
+            bus.masks = held.after(r.skipped, r.masks);
+        }
+        if layout::code_of(k) == 2 {
+            all = leaving::banks_moved(k, t, period, startup, r, n, all);
+        }
+        if leaving::touches_own(k, r) {
+            let own = all[r.ba as usize];
+            all[r.ba as usize] = leaving::bank_moved(k, t, period, startup, r, n, own);
+        }
+        if layout::code_of(k) < 3 {
+            startup = leaving::startup_after(k, r, n, startup);
+        }
+        let write = bus.write;
+        let driven = bus.reads;
+        let beat = databus::beat_on(last, held, write, driven, r.masks, n);
+        if leaving::stores(beat) {
+            let i = leaving::bank_of(beat);
+            let b = all[i as usize];
+            all[i as usize] = leaving::marked(true, n, b);
+        }
+        page::stored(core.bank, core.row, r.dq, beat, page);
+        report(beats, number, beat, n);
+        last = Event::On(n);
+        number += 1;
+        j += 1;
     }
-    let core = st.core;
     let verdict = Verdict::Taken;
     Ran {
         verdict,
-        reported: core.number,
+        reported: number,
     }
 }
 
@@ -198,6 +249,8 @@ impl Device {
                 reported: 0,
             };
         };
-        fold(setup, s, bytes, count, page, beats)
+        let core = s.core;
+        let banks = s.banks;
+        fold(setup, core, banks, bytes, count, page, beats)
     }
 }

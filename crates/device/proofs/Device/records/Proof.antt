@@ -22,7 +22,7 @@ returns : tie.Need-returns
 returns c = rw (c .enum-told2 .given .1) (sym (records-refused _ _ _ _ _ _ _ (sym (c .before .before .records-verdict .ensures) ∙ c .enum-told2 .given .1)))
 
 fold-requires : tie.Need-fold-requires
-fold-requires c κs = let e = entry-of _ _ _ _ (sym (c .before .before .before .before .records-verdict .ensures) ∙ c .before .before .enum-told .given .1) in (omega (arith, e .whole), e .able)
+fold-requires c κs = let e = entry-of _ _ _ _ (sym (c .before .before .before .before .before .before .records-verdict .ensures) ∙ c .before .before .before .before .enum-told .given .1) in (omega (arith, e .whole), e .able)
 
 same-length : tie.Need-same-length
 same-length c = search needs
@@ -31,7 +31,7 @@ same-length-2 : tie.Need-same-length-2
 same-length-2 c = search needs
 
 returns-2 : tie.Need-returns-2
-returns-2 c = c .before .before .before .before .fold .ensures ∙ sym (records-entered _ _ _ _ _ (sym (c .before .before .before .before .before .before .before .before .before .records-verdict .ensures) ∙ c .before .before .before .before .before .before .before .enum-told .given .1))
+returns-2 c = c .before .before .before .before .fold .ensures ∙ sym (records-entered _ _ _ _ _ (sym (c .before .before .before .before .before .before .before .before .before .before .before .records-verdict .ensures) ∙ c .before .before .before .before .before .before .before .before .before .enum-told .given .1))
 
 pub records-spec : {M : Type 1} → statement M
 records-spec =
