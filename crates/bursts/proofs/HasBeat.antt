@@ -6,11 +6,13 @@ use mathlib.Core.Bool.{Bool, true, false, _&&_, _||_, and-false}
 use lib.Dec.{leb, ltb}
 use borrow.Author.Tests.{le-leb, lt-leb, leb-true}
 use Rattle.units.specs.declared.Clock.{Clock}
+use Rattle.units.specs.Time.{clock}
+use Rattle.mode.specs.Word.{length-of, full-page, latency}
 use Rattle.units.proofs.Both.{both}
 use Rattle.units.proofs.Subtraction.{leb-alike}
 use Rattle.bursts.specs.declared.Burst.{Burst}
 use Rattle.bursts.specs.declared.Beat.the-variants.{Quiet}
-use Rattle.bursts.specs.Burst.{before-cut, has-beat, write-beat, read-beat}
+use Rattle.bursts.specs.Burst.{before-cut, has-beat, write-beat, reads-on}
 
 -- n is before k after s: less than k has gone by since s
 ltb-since : (n s k : ℕ) → s ≤ n → ltb n (s + k) ≡ ltb (n - s) k
@@ -44,6 +46,17 @@ module _ (b : Burst) (masks : ℕ) (n : Clock) where
   unfolding write-beat has-beat
   quiet-write h = rw h
 
-  pub quiet-read : b .live ≡ false → Quiet ≡ read-beat b masks n
-  unfolding read-beat has-beat
-  quiet-read h = rw (h, and-false)
+module _ (b : Burst) (n : Clock) where
+  pub reads-none : b .live ≡ false → false ≡ reads-on b n
+  unfolding has-beat
+  reads-none h = rw (h, and-false)
+
+  -- a beat on the bus is one that was fetched CL clocks before, not before the registration
+  pub fetched-late : reads-on b n ≡ true → latency (b .word) ≤ n .0
+  fetched-late h =
+      leb-true _ _ (both (leb (latency (b .word)) (n .0)) (has-beat b (length-of (b .word)) (full-page (b .word)) (clock (n .0 - latency (b .word)))) h .0)
+
+  pub fetched-since : reads-on b n ≡ true → b .start .0 ≤ n .0 - latency (b .word)
+  fetched-since h =
+      beat-is-not-ahead b (length-of (b .word)) (full-page (b .word)) (clock (n .0 - latency (b .word)))
+      (both (leb (latency (b .word)) (n .0)) (has-beat b (length-of (b .word)) (full-page (b .word)) (clock (n .0 - latency (b .word)))) h .1)

@@ -82,29 +82,28 @@ has-beat b length endless n =
 abbrev pub lanes-low : ℕ → ℕ
 lanes-low masks = 255 - masks
 
--- beat i of a burst, on these lanes
+-- beat i of a burst from this bank, row and column, in mode `word`, on these lanes
+abbrev pub cells-at : ℕ → ℕ → ℕ → ℕ → ℕ → ℕ → Cells
+cells-at bank row word column i masks =
+    record { bank = bank; row = row; column = beat-column word column i; lanes = lanes-low masks }
+
 abbrev pub cells : Burst → ℕ → ℕ → Cells
-cells b i masks =
-    record {
-      bank = b .bank;
-      row = b .row;
-      column = beat-column (b .word) (b .column) i;
-      lanes = lanes-low masks;
-    }
+cells b i masks = cells-at (b .bank) (b .row) (b .word) (b .column) i masks
 
 -- "WRITE at w: beat i on w + i. Lanes with DQMB LOW on that clock are stored"
 unfoldable pub write-beat : Burst → ℕ → Clock → Beat
 write-beat b masks n =
     cond (has-beat b (write-length (b .word)) (write-endless (b .word)) n) (Stores (cells b (n .0 - b .start .0) masks)) Quiet
 
--- "READ at r: beat i on r + CL + i": on clock n the beat that was fetched CL clocks before, with the masks of two clocks before
+-- "READ at r: beat i on r + CL + i": on clock n runs the beat that was fetched CL clocks before
+abbrev pub reads-on : Burst → Clock → Bool
+reads-on b n =
+    leb (latency (b .word)) (n .0)
+    && has-beat b (length-of (b .word)) (full-page (b .word)) (clock (n .0 - latency (b .word)))
+
+-- the beat, with the masks of two clocks before
 unfoldable pub read-beat : Burst → ℕ → Clock → Beat
-read-beat b masks n =
-    cond
-    (leb (latency (b .word)) (n .0)
-    && has-beat b (length-of (b .word)) (full-page (b .word)) (clock (n .0 - latency (b .word))))
-    (Drives (cells b (n .0 - latency (b .word) - b .start .0) masks))
-    Quiet
+read-beat b masks n = cond (reads-on b n) (Drives (cells b (n .0 - latency (b .word) - b .start .0) masks)) Quiet
 
 -- ── Auto precharge ──
 

@@ -1,7 +1,7 @@
 // The beats of one burst, and what a beat stores or drives (01, Beats).
 ghost use mathlib.Core.Path.{_≡_};
-ghost use Rattle.bursts.specs.Burst.{before-cut, has-beat, lanes-low, cells, write-beat, read-beat, finished};
-ghost use Rattle.bursts.specs.Bus.{or-else, drives-lane, stores-in};
+ghost use Rattle.bursts.specs.Burst.{before-cut, has-beat, lanes-low, cells-at, write-beat, reads-on, read-beat, finished};
+ghost use Rattle.bursts.specs.Bus.{or-else, stores-in};
 use crate::Beat;
 use crate::Burst;
 use crate::Cells;
@@ -42,6 +42,21 @@ pub fn or_else(a: Beat, b: Beat) -> Beat
     }
 }
 
+// Beat i of a burst from this bank, row and column, on the lanes that these masks leave. It takes numbers and not the burst:
+// a burst that is handed on is a copy, made before it is known whether there is a beat.
+pub fn cells_at(bank: u8, row: u16, word: u16, column: u16, i: u64, masks: u8) -> Cells
+    ensures { λ r. ⌜ r ≡ cells-at bank row word column i masks ⌝ }
+{
+    let place = beat_column(word, column, i);
+    let lanes = lanes_low(masks);
+    Cells {
+        bank,
+        row,
+        column: place,
+        lanes,
+    }
+}
+
 impl Burst {
     // The burst has a beat n - start: it is not ahead, not cut by then, and not at its end. By subtraction, so that no
     // sum can pass 64 bits.
@@ -60,20 +75,6 @@ impl Burst {
         kept & (endless | (n.0 - start < length as u64))
     }
 
-    // Beat i, on the lanes that these masks leave. The order of its column is 003 table 6.
-    pub fn cells(self, i: u64, masks: u8) -> Cells
-        ensures { λ r. ⌜ r ≡ cells self i masks ⌝ }
-    {
-        let column = beat_column(self.word, self.column, i);
-        let lanes = lanes_low(masks);
-        Cells {
-            bank: self.bank,
-            row: self.row,
-            column,
-            lanes,
-        }
-    }
-
     // "WRITE at w: beat i on w + i", stored on the lanes with DQMB LOW on that clock. With M9 = 1 there is one beat.
     pub fn write_beat(self, masks: u8, n: Clock) -> Beat
         ensures { λ r. ⌜ r ≡ write-beat self masks n ⌝ }
@@ -84,29 +85,37 @@ impl Burst {
         let length = write_length(self.word);
         let endless = write_endless(self.word);
         if self.has_beat(length, endless, n) {
-            let cells = self.cells(n.0 - self.start.0, masks);
+            let i = n.0 - self.start.0;
+            let cells = cells_at(self.bank, self.row, self.word, self.column, i, masks);
             return Beat::Stores(cells);
         }
         Beat::Quiet
     }
 
-    // "READ at r: beat i on r + CL + i": on clock n the beat that was fetched CL clocks before. `masks` are those of two
-    // clocks before n.
-    pub fn read_beat(self, masks: u8, n: Clock) -> Beat
-        ensures { λ r. ⌜ r ≡ read-beat self masks n ⌝ }
+    // "READ at r: beat i on r + CL + i": on clock n runs the beat that was fetched CL clocks before.
+    pub fn reads_on(self, n: Clock) -> bool
+        ensures { λ r. ⌜ r ≡ reads-on self n ⌝ }
     {
         if !self.live {
-            return Beat::Quiet;
+            return false;
         }
         let cl = latency(self.word) as u64;
         if n.0 < cl {
-            return Beat::Quiet;
+            return false;
         }
-        let fetched = n.0 - cl;
         let length = length_of(self.word);
         let endless = full_page(self.word);
-        if self.has_beat(length, endless, Clock(fetched)) {
-            let cells = self.cells(fetched - self.start.0, masks);
+        self.has_beat(length, endless, Clock(n.0 - cl))
+    }
+
+    // The beat on clock n. `masks` are those of two clocks before n.
+    pub fn read_beat(self, masks: u8, n: Clock) -> Beat
+        ensures { λ r. ⌜ r ≡ read-beat self masks n ⌝ }
+    {
+        if self.reads_on(n) {
+            let cl = latency(self.word) as u64;
+            let i = n.0 - cl - self.start.0;
+            let cells = cells_at(self.bank, self.row, self.word, self.column, i, masks);
             return Beat::Drives(cells);
         }
         Beat::Quiet
@@ -129,17 +138,6 @@ impl Burst {
 }
 
 impl Beat {
-    // Some lane is driven: number 20 asks it of the clocks around a WRITE.
-    pub fn drives_lane(self) -> bool
-        ensures { λ r. ⌜ r ≡ drives-lane self ⌝ }
-    {
-        match self {
-            Beat::Quiet => false,
-            Beat::Stores(_) => false,
-            Beat::Drives(cells) => cells.lanes != 0,
-        }
-    }
-
     // A byte is stored in bank i. tWR counts from here, so a beat whose lanes are all masked is none.
     pub fn stores_in(self, i: u8) -> bool
         ensures { λ r. ⌜ r ≡ stores-in self i ⌝ }

@@ -12,6 +12,7 @@ use crate::masking::two_before;
 use crate::reads::no_reads;
 use crate::reads::reads_after;
 use crate::reads::reads_beat;
+use crate::reads::reads_drive;
 use crate::reads::reads_finished;
 use layout::Command;
 use layout::Record;
@@ -94,7 +95,7 @@ pub fn driven(last: Event, held: Masks, reads: [Burst; 4], n: Clock) -> bool
     ensures { λ r. ⌜ r ≡ driven last held reads n ⌝ }
 {
     let earlier = masks_on(last, held, two_before(n));
-    reads_beat(reads, earlier, n).drives_lane()
+    reads_drive(reads, earlier, n)
 }
 
 // The clock before n.

@@ -5,9 +5,10 @@ ghost use Rattle.layout.specs.declared.Command.the-variants.{Terminate, Prechar
 ghost use Rattle.layout.specs.Commands.{is, access};
 ghost use Rattle.mode.specs.Word.{length-of};
 ghost use Rattle.bursts.specs.Burst.{finished};
-ghost use Rattle.bursts.specs.Bus.{no-reads, reads-beat, cut-each, reads-from, reads-after, reads-finished};
+ghost use Rattle.bursts.specs.Bus.{no-reads, reads-beat, drives-lane, cut-each, reads-from, reads-after, reads-finished};
 use crate::Beat;
 use crate::Burst;
+use crate::beats::lanes_low;
 use crate::beats::or_else;
 use crate::cuts::is;
 use layout::Command;
@@ -40,6 +41,18 @@ pub fn reads_beat(bs: [Burst; 4], masks: u8, n: Clock) -> Beat
     let c = bs[2].read_beat(masks, n);
     let d = bs[3].read_beat(masks, n);
     or_else(a, or_else(b, or_else(c, d)))
+}
+
+// Some lane of a READ is driven on clock n: number 20 asks no more than that.
+pub fn reads_drive(bs: [Burst; 4], masks: u8, n: Clock) -> bool
+    ensures { λ r. ⌜ r ≡ drives-lane (reads-beat bs masks n) ⌝ }
+{
+    let a = bs[0].reads_on(n);
+    let b = bs[1].reads_on(n);
+    let c = bs[2].reads_on(n);
+    let d = bs[3].reads_on(n);
+    let lanes = lanes_low(masks);
+    (a | (b | (c | d))) & (lanes != 0)
 }
 
 // Each burst as this command on clock n leaves it.

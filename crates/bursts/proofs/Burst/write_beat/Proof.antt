@@ -19,15 +19,15 @@ write-endless-requires c κs = search needs
 has-beat-requires : tie.Need-has-beat-requires
 has-beat-requires c κs = search needs
 
-sub-cells : tie.Need-sub-cells
-sub-cells c = beat-is-not-ahead _ _ _ _ (sym (c .before .before .before .has-beat .ensures) ∙ c .before .before .if2 .taken)
+sub-i : tie.Need-sub-i
+sub-i c = beat-is-not-ahead _ _ _ _ (sym (c .before .before .before .has-beat .ensures) ∙ c .before .before .if2 .taken)
 
-cells-requires : tie.Need-cells-requires
-cells-requires c κs = search needs
+cells-at-requires : tie.Need-cells-at-requires
+cells-at-requires c κs = search needs
 
 returns-2 : tie.Need-returns-2
 unfolding write-beat
-returns-2 c = rw (c .cells .ensures, ← c .before .before .before .before .before .before .write-length .ensures, ← c .before .before .before .before .before .write-endless .ensures, ← c .before .before .before .before .has-beat .ensures, c .before .before .before .if2 .taken)
+returns-2 c = rw (c .cells-at .ensures, ← c .before .before .before .before .before .before .write-length .ensures, ← c .before .before .before .before .before .write-endless .ensures, ← c .before .before .before .before .has-beat .ensures, c .before .before .before .if2 .taken)
 
 returns-3 : tie.Need-returns-3
 unfolding write-beat
@@ -41,7 +41,7 @@ write-beat-spec =
     write-length-requires
     write-endless-requires
     has-beat-requires
-    sub-cells
-    cells-requires
+    sub-i
+    cells-at-requires
     returns-2
     returns-3)

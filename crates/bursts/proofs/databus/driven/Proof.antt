@@ -10,15 +10,12 @@ two-before-requires c κs = search needs
 masks-on-requires : tie.Need-masks-on-requires
 masks-on-requires c κs = search needs
 
-reads-beat-requires : tie.Need-reads-beat-requires
-reads-beat-requires c κs = search needs
-
-drives-lane-requires : tie.Need-drives-lane-requires
-drives-lane-requires c κs = search needs
+reads-drive-requires : tie.Need-reads-drive-requires
+reads-drive-requires c κs = search needs
 
 returns : tie.Need-returns
 unfolding driven
-returns c = rw (c .drives-lane .ensures, c .before .reads-beat .ensures, c .before .before .masks-on .ensures, c .before .before .before .two-before .ensures)
+returns c = rw (c .reads-drive .ensures, c .before .masks-on .ensures, c .before .before .two-before .ensures)
 
 pub driven-spec : {M : Type 1} → statement M
 driven-spec =
@@ -26,6 +23,5 @@ driven-spec =
     (tie.spec
     two-before-requires
     masks-on-requires
-    reads-beat-requires
-    drives-lane-requires
+    reads-drive-requires
     returns)
