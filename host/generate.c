@@ -2,6 +2,7 @@
  * aim, and for some cases a damaged header at last. */
 #include "generate.h"
 
+#include "../include/hawsehole.h"
 #include "aims.h"
 #include "commands.h"
 
@@ -13,10 +14,7 @@ enum { TIMES = 12, TRAS_MIN = 2, TRAS_MAX = 3, REFRESH_INTERVAL = 11, TMRD = 12 
 
 /* ---- Tables ---- */
 
-static const uint64_t grade_table[2][13] = {
-    {7500, 7000, 37000, 120000000, 60000, 15000, 15000, 14000, 66000, 14000, 7000, 7812500, 2},
-    {10000, 7500, 44000, 120000000, 66000, 20000, 20000, 15000, 66000, 15000, 7500, 7812500, 2}
-};
+static const uint64_t grade_table[2][13] = {{HAWSEHOLE_GRADE_13E}, {HAWSEHOLE_GRADE_133}};
 
 /* A time at an edge: nothing, one, about some clocks, the most. */
 static uint64_t odd_time(struct random *r, uint64_t period)

@@ -49,10 +49,10 @@ target_cc() {
     if on_x86_64; then echo gcc; else echo "x86_64-linux-gnu-gcc -static"; fi
 }
 
-# run_target PROGRAM ARGUMENT...: runs an x86-64 program. On the plain processor: what libc does
-# with the wider registers of a newer one is slow to emulate.
+# run_target PROGRAM ARGUMENT...: runs an x86-64 program. The emulated processor is the plain one:
+# what libc does with the wider registers of a newer one is slow to emulate.
 run_target() {
-    if on_x86_64; then "$@"; else qemu-x86_64 -cpu qemu64 "$@"; fi
+    if on_x86_64; then "$@"; else qemu-x86_64 -L /usr/x86_64-linux-gnu -cpu qemu64 "$@"; fi
 }
 
 # make_host ARGUMENT...: make in host/, its words on standard error.

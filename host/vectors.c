@@ -7,12 +7,13 @@
  *
  * Prints a line for each difference and how many there are last. */
 #include "judges.h"
+#include "program.h"
 
 #include <inttypes.h>
 #include <stdlib.h>
 #include <string.h>
 
-enum { LINE_ROOM = 3 * CASE_TRACE_ROOM };
+enum { VECTOR_ROOM = 3 * CASE_TRACE_ROOM };
 
 struct expected {
     uint64_t number;
@@ -104,21 +105,10 @@ static bool read_case(char *line, struct test_case *c, struct expected *e)
 
 /* ---- Holding a judge to it ---- */
 
-/* One line of the program: W or R, record, clock, bank, row, column in decimal,
- * lanes as two hex digits. */
-static uint64_t hash_beat_line(uint64_t hash, size_t k, uint64_t word, uint64_t clock)
-{
-    char line[128];
-    int length = snprintf(line, sizeof line,
-                          "%c %zu %" PRIu64 " %" PRIu64 " %" PRIu64 " %" PRIu64 " %02" PRIx64 "\n",
-                          word >> 48 == 2 ? 'W' : 'R', k, clock, word >> 40 & 0xFF,
-                          word >> 24 & 0xFFFF, word >> 8 & 0xFFFF, word & 0xFF);
-    return fnv1a(hash, (const uint8_t *)line, (size_t)length);
-}
-
 static struct expected summary(const struct test_case *c, const struct outcome *out)
 {
     struct expected s = {0, 0, 0, 0, FNV_START, 0};
+    char line[LINE_ROOM];
     size_t taken = records_taken(out->answer);
     s.number = answer_number(out->answer);
     s.record = answer_record(out->answer);
@@ -127,7 +117,8 @@ static struct expected summary(const struct test_case *c, const struct outcome *
         if (out->beats[2 * k] == 0)
             continue;
         s.beats++;
-        s.beat_lines = hash_beat_line(s.beat_lines, k, out->beats[2 * k], out->beats[2 * k + 1]);
+        size_t length = beat_line(line, k, out->beats + 2 * k);
+        s.beat_lines = fnv1a(s.beat_lines, (const uint8_t *)line, length);
     }
     s.page = fnv1a(FNV_START, out->page, c->page_len);
     return s;
@@ -164,7 +155,7 @@ static bool hold_all(size_t line, const struct test_case *c, const struct expect
 
 int main(int argc, char **argv)
 {
-    static char line[LINE_ROOM];
+    static char line[VECTOR_ROOM];
     static struct test_case c;
     struct expected e;
     size_t cases = 0, differ = 0;

@@ -3,12 +3,12 @@
  * for the clocks. */
 #include "workload.h"
 
+#include "../include/hawsehole.h"
 #include "draft.h"
 
 enum { PERIOD = 7500, GRADE = 2, MODE_LENGTH_4 = 0x32, MODE_FULL_PAGE = 0x37 };
 
-const uint64_t workload_table[13] = {10000, 7500,  44000, 120000000, 66000,   20000, 20000,
-                                     15000, 66000, 15000, 7500,      7812500, 2};
+const uint64_t workload_table[13] = {HAWSEHOLE_GRADE_133};
 
 const char *workload_name(enum workload w)
 {

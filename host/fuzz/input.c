@@ -62,6 +62,19 @@ void case_from_input(const uint8_t *bytes, size_t count, struct test_case *c)
         mend(c);
 }
 
+bool read_input(const char *name, struct test_case *c)
+{
+    static uint8_t bytes[INPUT_ROOM];
+    FILE *file = fopen(name, "rb");
+    if (file == NULL)
+        return false;
+    size_t count = fread(bytes, 1, sizeof bytes, file);
+    bool read = !ferror(file);
+    fclose(file);
+    case_from_input(bytes, count, c);
+    return read;
+}
+
 size_t input_from_case(const struct test_case *c, uint8_t bytes[INPUT_ROOM])
 {
     bytes[FLAGS] = whole(c) ? MENDED : 0;

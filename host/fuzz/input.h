@@ -18,6 +18,9 @@ enum { INPUT_HEAD = 57, INPUT_ROOM = INPUT_HEAD + CASE_TRACE_ROOM };
 /* A trace longer than CASE_TRACE_ROOM is cut off there. */
 void case_from_input(const uint8_t *bytes, size_t count, struct test_case *c);
 
+/* The case of an input in a file; false if it cannot be read. */
+bool read_input(const char *name, struct test_case *c);
+
 /* The input of a case, and its length. Table numbers that 4 bytes cannot hold
  * become the most that they can. */
 size_t input_from_case(const struct test_case *c, uint8_t bytes[INPUT_ROOM]);

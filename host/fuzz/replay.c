@@ -6,19 +6,6 @@
 #include "../judges.h"
 #include "input.h"
 
-static bool read_input(const char *name, struct test_case *c)
-{
-    static uint8_t bytes[INPUT_ROOM];
-    FILE *file = fopen(name, "rb");
-    if (file == NULL)
-        return false;
-    size_t count = fread(bytes, 1, sizeof bytes, file);
-    bool whole = !ferror(file);
-    fclose(file);
-    case_from_input(bytes, count, c);
-    return whole;
-}
-
 int main(int argc, char **argv)
 {
     static struct test_case c;

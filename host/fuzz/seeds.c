@@ -2,14 +2,12 @@
  *
  *   seeds FOLDER [TRACE...]
  *
- * One for each trace, under the table of its header's grade, and generated ones:
- * the shortest of some for each number and each interval. */
+ * One for each trace, lent what the program lends it, and generated ones: the
+ * shortest of some for each number and each interval. */
 #include "../generate.h"
 #include "../judges.h"
-#include "../../include/hawsehole.h"
+#include "../program.h"
 #include "input.h"
-
-#include <string.h>
 
 enum { TRIED = 20000 };
 
@@ -47,18 +45,14 @@ static bool write_generated(const char *folder)
     return written;
 }
 
-/* The trace of a file, with all that it needs lent. */
 static bool read_trace(const char *name, struct test_case *c)
 {
-    static const uint64_t grade[2][13] = {{HAWSEHOLE_GRADE_13E}, {HAWSEHOLE_GRADE_133}};
     FILE *file = fopen(name, "rb");
     if (file == NULL)
         return false;
     c->trace_len = fread(c->trace, 1, sizeof c->trace, file);
     fclose(file);
-    memcpy(c->table, grade[c->trace_len > 6 && c->trace[6] == 1 ? 0 : 1], sizeof c->table);
-    c->page_len = HAWSEHOLE_PAGE_BYTES;
-    c->beats_len = 2 * (c->trace_len / 16);
+    lend_as_program(c);
     return true;
 }
 
