@@ -85,9 +85,9 @@ static void time_judges(struct bench *b, double seconds[JUDGES])
 static void print_times(const double seconds[JUDGES], enum workload w)
 {
     for (unsigned j = 0; j < JUDGES; j++) {
-        printf("%-18s %-17s %11.0f", workload_name(w), judges[j].name, RECORDS / seconds[j]);
+        printf("%-19s %-16s %14.0f", workload_name(w), judges[j].name, RECORDS / seconds[j]);
         if (j % 2 == 0)
-            printf("   %.2f", seconds[j] / seconds[j + 1]);
+            printf(" %11.2f", seconds[j] / seconds[j + 1]);
         printf("\n");
     }
 }
@@ -95,7 +95,7 @@ static void print_times(const double seconds[JUDGES], enum workload w)
 static void time_all(struct bench *b)
 {
     double seconds[JUDGES];
-    printf("trace              judge             records/second  time/plain\n");
+    printf("%-19s %-16s %14s %11s\n", "trace", "judge", "records/second", "time/plain");
     for (enum workload w = 0; w < WORKLOADS; w++) {
         b->trace_len = make_workload(w, RECORDS, b->trace);
         check(b, RECORDS);
@@ -119,8 +119,9 @@ int main(int argc, char **argv)
         time_all(&b);
         return 0;
     }
-    if (argc != 5 || !read_word(argv[1], WORKLOADS - 1, &w) || !read_word(argv[2], JUDGES - 1, &j) ||
-        !read_word(argv[3], RECORDS, &records) || !read_word(argv[4], 1000000, &times)) {
+    if (argc != 5 || !read_word(argv[1], WORKLOADS - 1, &w) ||
+        !read_word(argv[2], JUDGES - 1, &j) || !read_word(argv[3], RECORDS, &records) ||
+        !read_word(argv[4], 1000000, &times)) {
         fprintf(stderr, "usage: bench [TRACE JUDGE RECORDS TIMES]\n");
         return 2;
     }
