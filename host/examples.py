@@ -169,7 +169,7 @@ each must print by document 01; `python3 host/examples.py --run` runs the progra
 |---|---|---|
 %s
 The other numbers are not the program's: it has each grade's own table and a page of 16,384 bytes, so never 6 or 7. By these tables
-a row is never open for tRAS max, since refreshes close it, so 12 is always given before 13 and 22. No whole trace gets 23, and 25
+a row is never open for tRAS max, since a refresh is due long before and needs every bank closed, so 12 is always given before 13 and 22. No whole trace gets 23, and 25
 is the one-record call's. More than 65,536 bytes print `TOO LONG` alone: `head -c 65537 /dev/zero | ./judge`.
 """
 

@@ -1,36 +1,22 @@
 -- What is short of each command's minima, as the code computes it. Assumes nothing.
 use Prim.Native.Nat.{ℕ}
-use mathlib.Core.Path.{_≡_, refl, sym, _∙_}
-use mathlib.Core.Bool.{Bool, true, false, not, _&&_, _||_, cond, or-false}
-use mathlib.Core.List.{List, [], _∷_, _++_}
+use mathlib.Core.Path.{_≡_, refl}
+use mathlib.Core.Bool.{Bool, true, false, cond, or-false}
+use mathlib.Core.List.{List}
 use lib.Dec.{eqb}
 use lib.ListN.{length}
 use Rattle.units.specs.declared.Ps.{Ps}
-use Rattle.units.specs.Time.{at, clocks-of}
+use Rattle.units.specs.Time.{at}
 use Rattle.speed.specs.declared.SpeedTable.{SpeedTable}
 use Rattle.layout.specs.declared.Record.{Record}
 use Rattle.layout.specs.declared.Command.the-variants.{Active, Read, Write, Terminate, Precharge, Refresh, LoadMode}
 use Rattle.layout.specs.Commands.{covers}
-use Rattle.asking.specs.declared.Shorts.{Shorts}
 use Rattle.rules.specs.declared.StartUp.{StartUp}
 use Rattle.rules.specs.declared.Bank.{Bank}
-use Rattle.rules.specs.Numbers.{tRCD, tRAS, tRC, tRP, tRRD, tRFC, tWR, tMRD}
-use Rattle.rules.specs.StartUp.{begun, last-refresh, last-load}
+use Rattle.rules.specs.Numbers.{tRCD, tRP, tRRD}
+use Rattle.rules.specs.StartUp.{last-refresh, last-load}
 use Rattle.rules.specs.Banks.{bank-at}
-use Rattle.rules.specs.Minima.{
-  from,
-  of-closing,
-  of-any,
-  of-other,
-  of-active,
-  of-access,
-  of-precharged,
-  of-covered,
-  of-precharge,
-  of-idle,
-  events,
-  minima,
-}
+use Rattle.rules.specs.Minima.{of-closing, of-any, of-other, of-active, of-access, of-precharged, of-covered, of-precharge, of-idle, events}
 use Rattle.asking.specs.Shorts.{
   shorts,
   no-shorts,
@@ -43,20 +29,7 @@ use Rattle.asking.specs.Shorts.{
   short-others,
   short-closings,
 }
-use Rattle.asking.proofs.Lowest.{
-  shorts-join,
-  shorts-none,
-  shorts-only,
-  either-none,
-  none-either,
-  one-short,
-  shorts-since,
-  shorts-opened,
-  shorts-stored,
-  shorts-closed,
-  shorts-each,
-  shorts-zero,
-}
+use Rattle.asking.proofs.Lowest.{shorts-join, shorts-none, shorts-only, either-none, none-either, one-short, shorts-since, shorts-opened, shorts-stored, shorts-closed, shorts-each}
 
 module _ (t : SpeedTable) (period now : Ps) where
   closing-shorts : (b : Bank) → shorts t period now (of-closing b) ≡ one-short t period tRP (λ m. short-closed (b .status) m now)

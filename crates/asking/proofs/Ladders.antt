@@ -1,7 +1,6 @@
 -- Rows 14 to 22 as the code asks them: for each command, only what document 01 asks of it. Assumes nothing.
-use Prim.Native.Nat.{ℕ}
-use mathlib.Core.Path.{_≡_, refl, ap, sym, _∙_}
-use mathlib.Core.Bool.{Bool, true, false, not, _&&_, _||_, cond, and-true}
+use mathlib.Core.Path.{_≡_, refl, ap, _∙_}
+use mathlib.Core.Bool.{Bool, true, false, _&&_, cond, and-true}
 use mathlib.Core.List.{List, [], _∷_, _++_}
 use lib.Dec.{eqb}
 use Rattle.units.specs.declared.Clock.{Clock}
@@ -28,7 +27,6 @@ use Rattle.rules.specs.declared.StartUp.{StartUp}
 use Rattle.rules.specs.declared.Status.{Status}
 use Rattle.rules.specs.declared.Bank.{Bank}
 use Rattle.rules.specs.declared.Core.{Core}
-use Rattle.asking.specs.declared.Shorts.{Shorts}
 use Rattle.rules.specs.declared.Verdict.{Verdict}
 use Rattle.rules.specs.declared.Verdict.the-variants.{Taken, Refused}
 use Rattle.rules.specs.Numbers.{Rule, rule, first-broken, _⇒_}
@@ -36,7 +34,7 @@ use Rattle.rules.specs.Parts.{word}
 use Rattle.rules.specs.Closing.{burst-end, ends-by-itself, closes-within}
 use Rattle.rules.specs.StartUp.{begun, two-done, last-load, power-up, allowed}
 use Rattle.rules.specs.Banks.{bank-at, is-open, is-closed, closed, every, banks-found}
-use Rattle.rules.specs.Minima.{Since, only, of-any, of-active, of-access, of-precharge, of-idle, events, minima}
+use Rattle.rules.specs.Minima.{of-any, of-active, of-access, of-precharge, of-idle, events, minima}
 use Rattle.rules.specs.Rules.{tCK, place-rules, minimum-rules, mode-rules, bus-rules, command-rules}
 use Rattle.asking.specs.Shorts.{shorts, either, lowest}
 use Rattle.asking.specs.Answers.{auto-answer}

@@ -1,5 +1,4 @@
 -- 21 and 22 as two tests, for the code that asks them. Definitions only.
-use Prim.Native.Nat.{ℕ}
 use mathlib.Core.Bool.{cond}
 use Rattle.units.specs.declared.Clock.{Clock}
 use Rattle.speed.specs.declared.SpeedTable.{SpeedTable}

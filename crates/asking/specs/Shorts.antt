@@ -1,6 +1,6 @@
 -- Number 16 as eight tests: which minima are not met, and the lowest of them. Definitions only.
-use Prim.Native.Nat.{ℕ, _≤_}
-use mathlib.Core.Bool.{Bool, true, false, not, _&&_, _||_, cond}
+use Prim.Native.Nat.{ℕ}
+use mathlib.Core.Bool.{Bool, false, not, _&&_, _||_, cond}
 use mathlib.Core.List.{List}
 use lib.Dec.{eqb}
 use Rattle.units.specs.declared.Clock.{Clock}

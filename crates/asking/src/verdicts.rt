@@ -19,6 +19,7 @@ use mode::Decoded;
 use parts::closing;
 use parts::steps;
 use rules::Bank;
+use rules::CLOCK_MAX;
 use rules::Core;
 use rules::Refreshes;
 use rules::Status;
@@ -26,9 +27,6 @@ use rules::Verdict;
 use speed::SpeedTable;
 use units::Clock;
 use units::Ps;
-
-// "The record's clock above 2^40."
-const CLOCK_MAX: u64 = 1_099_511_627_776;
 
 // 10, 23, 11, 12 and 13 are tried on every record.
 pub fn every_verdict(

@@ -1,6 +1,6 @@
 -- Folding records with their page and beats is running them, and then storing and reporting what was run. Assumes nothing.
-use Prim.Native.Nat.{ℕ, _+_}
-use mathlib.Core.Path.{_≡_, refl, ap, sym, subst, _∙_}
+use Prim.Native.Nat.{ℕ}
+use mathlib.Core.Path.{_≡_, refl, ap, sym, _∙_}
 use mathlib.Core.List.{List, [], _∷_}
 use Rattle.layout.specs.declared.Record.{Record}
 use Rattle.page.specs.Store.{stored}
@@ -10,7 +10,7 @@ use Rattle.rules.specs.declared.Verdict.{Verdict}
 use Rattle.rules.specs.declared.Verdict.the-variants.{Taken, Refused}
 use Rattle.rules.specs.Rules.{ask}
 use Rattle.rules.specs.After.{core-from, core-after, own-beat, next}
-use Rattle.rules.specs.Run.{Line, Run, line, run, page-after}
+use Rattle.rules.specs.Run.{Run, line, run, page-after}
 use Rattle.rules.specs.Report.{put-line, lines-into, Left, left, ran, fold}
 use Rattle.rules.proofs.Runs.{run-taken, run-refused}
 use Rattle.device.proofs.Folds.{fold-taken, fold-refused}

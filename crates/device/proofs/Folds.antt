@@ -1,10 +1,10 @@
 -- One turn of the loop over records is one record of the fold. Assumes nothing.
-use Prim.Native.Nat.{ℕ, zero, suc, _+_, _-_, _*_, _≤_, _<_}
+use Prim.Native.Nat.{ℕ, _+_, _-_, _*_, _<_}
 use native.Mathlib.Omega.{arith}
 use native.Mathlib.Numerals.{add-one}
 use mathlib.Core.Path.{_≡_, refl, ap, sym, subst, _∙_}
-use mathlib.Core.List.{List, [], _∷_}
-use lib.ListN.{length, take, drop}
+use mathlib.Core.List.{List, _∷_}
+use lib.ListN.{take, drop}
 use lib.Seq.{drop-drop}
 use Rattle.units.specs.declared.Clock.{Clock}
 use Rattle.layout.specs.declared.Record.{Record}
@@ -15,7 +15,6 @@ use Rattle.bursts.specs.declared.Beat.{Beat}
 use Rattle.page.specs.Store.{stored}
 use Rattle.rules.specs.declared.State.{State}
 use Rattle.rules.specs.declared.Setup.{Setup}
-use Rattle.rules.specs.declared.Verdict.{Verdict}
 use Rattle.rules.specs.declared.Verdict.the-variants.{Taken, Refused}
 use Rattle.rules.specs.Parts.{clock-of}
 use Rattle.rules.specs.Rules.{ask}

@@ -2,7 +2,7 @@
 use Prim.Native.Nat.{ℕ, zero, suc, _+_, _≤_, _<_}
 use native.Mathlib.Omega.{arith}
 use mathlib.Core.Path.{_≡_, refl, ap, sym, subst, _∙_}
-use mathlib.Core.Bool.{Bool, true, false, not, _&&_, _||_, cond, true≢false, and-false}
+use mathlib.Core.Bool.{Bool, true, false, not, _&&_, _||_, true≢false, and-false}
 use mathlib.Core.List.{List, [], _∷_}
 use lib.Dec.{ltb, eqb}
 use lib.ListN.{length, set}
@@ -26,15 +26,16 @@ use Rattle.layout.specs.declared.Command.the-variants.{
   Refresh,
   LoadMode,
 }
-use Rattle.layout.specs.Commands.{command, code-of, is, covers}
+use Rattle.layout.specs.Commands.{command, code-of, is}
 use Rattle.bursts.specs.declared.Burst.{Burst}
 use Rattle.bursts.specs.declared.Bus.{Bus}
 use Rattle.bursts.specs.declared.Beat.{Beat}
 use Rattle.bursts.specs.declared.Beat.the-variants.{Quiet, Stores, Drives}
-use Rattle.bursts.specs.Bus.{masks-after, write-after, reads-after, bus-after, beat-on, stores-in}
+use Rattle.bursts.specs.Bus.{masks-after, write-after, bus-after, beat-on, stores-in}
 use Rattle.bursts.proofs.Untouched.{can-end, reads-untouched}
 use Rattle.rules.specs.declared.StartUp.{StartUp}
 use Rattle.rules.specs.declared.Bank.{Bank}
+use Rattle.rules.specs.declared.Core.{Core}
 use Rattle.rules.specs.declared.State.{State}
 use Rattle.rules.specs.declared.Setup.{Setup}
 use Rattle.rules.specs.Parts.{clock-of, word-in}
@@ -48,6 +49,7 @@ use Rattle.rules.specs.After.{
   core-from,
   core-after,
   banks-after,
+  taking,
   own-beat,
   next,
   bank-after,
@@ -201,8 +203,8 @@ pub record Settled (u : Setup) (s : State) (r : Record) (st : State) (w : Beat) 
   pub state : st ≡ next u s r
   pub beat : w ≡ own-beat s r
 
-module _ (u : Setup) (s : State) (r : Record) {k : Command} {n : Clock} {bus : Bus} {startup : StartUp} {w : Beat} {one two : List Bank} where
-  pub settled : k ≡ command r → n ≡ clock-of (s .core) r
+module _ (u : Setup) (s : State) (r : Record) {k : Command} {n : Clock} {bus : Bus} {w : Beat} {one two : List Bank} where
+  pub settled : {startup : StartUp} → k ≡ command r → n ≡ clock-of (s .core) r
       → bus ≡ bus-after k r n (word-in (s .core .startup .register)) (row-of (bank-at (s .banks) (r .ba) .status)) (s .core .bus)
       → startup ≡ startup-after k r n (s .core .startup)
       → w ≡ beat-on (s .core .last) (s .core .bus .masks) (bus .write) (bus .reads) (r .masks) n
@@ -214,3 +216,17 @@ module _ (u : Setup) (s : State) (r : Record) {k : Command} {n : Clock} {bus : B
   settled hk hn hb hs hw ho ht =
       let e : w ≡ own-beat s r = rw (hw, hb, hn, hk) in
       record { state = rw (ht, ho, e, hs, hb, hn, hk); beat = e }
+
+  -- the same with the core built at once: what taking gives
+  pub taken : k ≡ command r → n ≡ clock-of (s .core) r
+      → bus ≡ bus-after k r n (word-in (s .core .startup .register)) (row-of (bank-at (s .banks) (r .ba) .status)) (s .core .bus)
+      → w ≡ beat-on (s .core .last) (s .core .bus .masks) (bus .write) (bus .reads) (r .masks) n
+      → one
+      ≡ commanded k (u .table) (s .core .period) (burst-end k (u .table) (s .core .period) (word-in (s .core .startup .register)) n)
+      (begun (s .core .startup)) r n (at (s .core .period) n) (s .banks)
+      → two ≡ mark-banks w n one → {core : Core} → core ≡ core-from (s .core) k r n bus
+      → record { beat = w; next = record { core = core; banks = two } } ≡ taking u s r
+  unfolding core-from
+  taken hk hn hb hw ho ht hc =
+      let x = settled hk hn hb refl hw ho ht in
+      ap (λ (c : Core). record { beat = w; next = record { core = c; banks = two } }) hc ∙ (λ i. record { beat = x .beat i; next = x .state i })

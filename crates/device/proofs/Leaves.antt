@@ -1,6 +1,6 @@
 -- What a command leaves of the four banks, and that most commands leave them as they were. Assumes nothing.
 use Prim.Native.Nat.{ℕ}
-use mathlib.Core.Path.{_≡_, refl, ap, _∙_}
+use mathlib.Core.Path.{_≡_, refl, ap}
 use mathlib.Core.Bool.{Bool, true, false, _&&_, _||_, cond}
 use mathlib.Core.List.{List, [], _∷_}
 use lib.Dec.{eqb}
@@ -11,37 +11,13 @@ use Rattle.speed.specs.declared.SpeedTable.{SpeedTable}
 use Rattle.layout.specs.declared.Record.{Record}
 use Rattle.layout.specs.declared.Command.{Command}
 use Rattle.layout.specs.declared.Command.the-variants.{Active, Precharge}
-use Rattle.layout.specs.Commands.{command, is, covers}
+use Rattle.layout.specs.Commands.{is, covers}
 use Rattle.bursts.specs.declared.Beat.{Beat}
-use Rattle.bursts.specs.Bus.{bus-after, beat-on, stores-in}
+use Rattle.bursts.specs.Bus.{stores-in}
 use Rattle.rules.specs.declared.Bank.{Bank}
-use Rattle.rules.specs.declared.Core.{Core}
-use Rattle.rules.specs.declared.State.{State}
-use Rattle.rules.specs.declared.Setup.{Setup}
-use Rattle.rules.specs.declared.Taking.{Taking}
-use Rattle.rules.specs.Parts.{clock-of, now, word}
-use Rattle.rules.specs.StartUp.{begun}
-use Rattle.rules.specs.Closing.{burst-end}
 use Rattle.rules.specs.Banks.{bank-at}
 use Rattle.rules.specs.Rules.{asks-auto}
-use Rattle.rules.specs.After.{
-  beat,
-  core-from,
-  core-after,
-  banks-after,
-  own-row,
-  next,
-  taking,
-  with-status,
-  precharged,
-  auto-closed,
-  activated,
-  bank-after,
-  marked,
-  each-bank,
-  commanded,
-  mark-banks,
-}
+use Rattle.rules.specs.After.{with-status, precharged, auto-closed, activated, bank-after, marked, each-bank, commanded, mark-banks}
 use Rattle.rules.proofs.Four.{four}
 
 pub each-four : (f : ℕ → Bank → Bank) (l : List Bank) → length l ≡ 4
@@ -86,24 +62,3 @@ pub mark-four : (w : Beat) (n : Clock) (l : List Bank) → length l ≡ 4
     ∷ [])
 unfolding mark-banks
 mark-four w n l h = each-four (λ i b. marked (stores-in w i) n b) l h
-
--- taking a record, part by part
-abbrev pub parts : SpeedTable → Core → List Bank → Record → Command → Clock → Ps → ℕ → ℕ → Taking
-parts t c bs r k n moment word row =
-    let bus = bus-after k r n word row (c .bus) in
-    let beat = beat-on (c .last) (c .bus .masks) (bus .write) (bus .reads) (r .masks) n in
-    record {
-      beat = beat;
-      next =
-          record {
-            core = core-from c k r n bus;
-            banks =
-                mark-banks beat n
-                (commanded k t (c .period) (burst-end k t (c .period) word n) (begun (c .startup)) r n moment bs);
-          };
-    }
-
-pub taking-parts : (u : Setup) (s : State) (r : Record)
-    → taking u s r ≡ parts (u .table) (s .core) (s .banks) r (command r) (clock-of (s .core) r) (now (s .core) r) (word (s .core)) (own-row s r)
-unfolding next core-after banks-after beat bus-after
-taking-parts u s r = refl

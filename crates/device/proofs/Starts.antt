@@ -1,9 +1,9 @@
 -- The call that judges many records, by what it finds before the first. Assumes nothing.
 use Prim.Native.Nat.{ℕ, _+_, _/_, _%_, _≤_}
 use native.Mathlib.Omega.{arith}
-use mathlib.Core.Path.{_≡_, refl, ap, sym, subst, _∙_}
+use mathlib.Core.Path.{_≡_, refl, sym, _∙_}
 use mathlib.Core.Bool.{true, false}
-use mathlib.Core.List.{List, [], _∷_, _++_}
+use mathlib.Core.List.{List, [], _∷_}
 use lib.Dec.{leb, eqb}
 use lib.ListN.{length}
 use borrow.Author.Tests.{leb-true, eqb-true}
@@ -13,7 +13,7 @@ use Rattle.rules.specs.declared.State.{State}
 use Rattle.rules.specs.declared.Setup.{Setup}
 use Rattle.rules.specs.declared.Verdict.{Verdict}
 use Rattle.rules.specs.declared.Verdict.the-variants.{Taken, Refused}
-use Rattle.rules.specs.Numbers.{Rule, rule, first-broken}
+use Rattle.rules.specs.Numbers.{rule, first-broken}
 use Rattle.rules.specs.Fits.{number-max}
 use Rattle.rules.specs.OneRecord.{state-rules}
 use Rattle.parts.specs.Reach.{Able}

@@ -2,7 +2,6 @@
 use Prim.Native.Nat.{ℕ}
 use mathlib.Core.Bool.{Bool, false, not, _&&_}
 use lib.Dec.{ltb, eqb}
-use Rattle.bursts.specs.declared.Cells.{Cells}
 use Rattle.bursts.specs.declared.Beat.{Beat}
 use Rattle.bursts.specs.declared.Beat.the-variants.{Quiet, Stores, Drives}
 use Rattle.units.specs.Module.{banks}

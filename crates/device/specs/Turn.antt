@@ -1,4 +1,4 @@
--- One record asked and, where nothing is found, taken: the turn of every loop over records. Definitions only.
+-- One record asked and, where nothing is found, taken: what is behind the one-record call. Definitions only.
 use Prim.Native.Nat.{ℕ}
 use mathlib.Core.List.{List}
 use Rattle.layout.specs.declared.Record.{Record}

@@ -1,11 +1,9 @@
-// Asking and taking, over the state and a record; and the two in turn.
+// Taking a record from the state, and asking and taking in turn.
 ghost use mathlib.Core.Path.{_≡_};
-ghost use Prim.Native.Nat.{_≤_, _<_, _+_, _^_};
-ghost use Rattle.units.specs.Time.{clock};
-ghost use Rattle.rules.specs.Parts.{next-clock, clock-of};
+ghost use Prim.Native.Nat.{_≤_};
+ghost use Rattle.rules.specs.Parts.{clock-of};
 ghost use Rattle.parts.specs.Reach.{Call};
-ghost use Rattle.rules.specs.Admitted.{FitEvent};
-ghost use Rattle.rules.specs.Rules.{clock-max, ask};
+ghost use Rattle.rules.specs.Rules.{clock-max};
 ghost use Rattle.rules.specs.After.{taking};
 ghost use Rattle.device.specs.Turn.{turned, turn-of};
 use crate::Turn;
@@ -13,9 +11,6 @@ use crate::leaving;
 use bursts::Beat;
 use bursts::databus;
 use layout::Record;
-use parts::banks;
-use parts::closing;
-use parts::steps;
 use parts::time;
 use rules::Setup;
 use rules::State;
@@ -32,24 +27,17 @@ pub fn take(u: Setup, s: State, r: Record) -> Taking
     let all = s.banks;
     let last = c.last;
     let startup = c.startup;
-    let register = startup.register;
     let old = c.bus;
     let held = old.masks;
-    let n = time::clock_of(last, r.skipped);
-    let now = time::at(c.period, n);
-    let k = layout::command_of(r.code);
     let own = all[r.ba as usize];
-    let status = own.status;
-    let row = banks::row_of(status);
-    let word = steps::word_in(register);
-    let bus = databus::bus_after(k, r, n, word, row, old);
+    let n = time::clock_of(last, r.skipped);
+    let k = layout::command_of(r.code);
+    let bus = leaving::bus_moved(k, r, n, startup, own, old);
     let write = bus.write;
     let reads = bus.reads;
     let beat = databus::beat_on(last, held, write, reads, r.masks, n);
+    let after = leaving::banks_moved(k, t, c.period, startup, r, n, all);
     let core = leaving::core_from(c, k, r, n, bus);
-    let end = closing::burst_end(k, t, c.period, word, n);
-    let again = steps::begun(startup);
-    let after = leaving::commanded(k, t, c.period, end, again, r, n, now, all);
     let banks = leaving::mark_banks(beat, n, after);
     let next = State { core, banks };
     Taking { beat, next }

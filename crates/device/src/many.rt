@@ -1,4 +1,4 @@
-// Records of a lent slice, one after another: the turn that reports, and the loop.
+// Records of a lent slice, one after another: what each reports, and the loop.
 ghost use mathlib.Core.Path.{_≡_};
 ghost use Prim.Native.Nat.{_≤_, _*_, _+_};
 ghost use lib.ListN.{length, set};
@@ -21,6 +21,7 @@ use layout::Record;
 use parts::time;
 use rules::Bank;
 use rules::Core;
+use rules::NUMBER_MAX;
 use rules::Ran;
 use rules::Refreshes;
 use rules::Register;
@@ -32,9 +33,6 @@ use rules::Verdict;
 use units::Clock;
 use units::Event;
 use units::Ps;
-
-// "A record number above 2^41."
-const NUMBER_MAX: u64 = 2_199_023_255_552;
 
 fn cells_word(kind: u8, c: Cells) -> u64
     ensures { λ r. ⌜ r ≡ cells-word kind c ⌝ }

@@ -6,7 +6,9 @@ use crate::steps;
 use bursts::Burst;
 use bursts::Bus;
 use rules::Bank;
+use rules::CLOCK_MAX;
 use rules::Core;
+use rules::NUMBER_MAX;
 use rules::Register;
 use rules::StartUp;
 use rules::State;
@@ -16,12 +18,6 @@ use units::COLUMNS;
 use units::Clock;
 use units::Event;
 use units::ROWS;
-
-// "A clock above 2^40."
-const CLOCK_MAX: u64 = 1_099_511_627_776;
-
-// "A record number above 2^41."
-const NUMBER_MAX: u64 = 2_199_023_255_552;
 
 // "A time above 2^58 ps."
 const CLOSING_MAX: u64 = 288_230_376_151_711_744;

@@ -1,4 +1,4 @@
-// What a bank's record says: number 15.
+// What a bank's record says, as number 15 asks it.
 ghost use mathlib.Core.Path.{_≡_};
 ghost use Rattle.rules.specs.Banks.{is-open, is-closed, row-of, closed, every};
 use rules::Bank;

@@ -1,4 +1,4 @@
-// The steps of start-up, and number 14.
+// The steps of start-up, as number 14 and the minima ask them.
 ghost use mathlib.Core.Path.{_≡_};
 ghost use Rattle.rules.specs.StartUp.{begun, two-done, last-refresh, counted-refresh, last-load};
 ghost use Rattle.rules.specs.Parts.{word-in};

@@ -4,16 +4,16 @@ use Prim.Native.Nat.{ℕ, _≤_}
 use native.Mathlib.Omega.{arith}
 use mathlib.Core.Path.{_≡_, refl, ap, sym, subst, _∙_}
 use mathlib.Core.List.{List, [], _∷_, _++_}
-use lib.ListN.{length, take, length-append}
+use lib.ListN.{length, take}
 use Rattle.speed.specs.declared.SpeedTable.{SpeedTable}
 use Rattle.speed.specs.Table.{grade-13E, grade-133}
 use Rattle.layout.specs.declared.Record.{Record}
 use Rattle.rules.specs.declared.Bank.{Bank}
 use Rattle.rules.specs.declared.Core.{Core}
 use Rattle.rules.specs.declared.State.{State}
-use Rattle.rules.specs.declared.Verdict.the-variants.{Taken, Refused}
+use Rattle.rules.specs.declared.Verdict.the-variants.{Taken}
 use Rattle.rules.specs.Parts.{clock-of}
-use Rattle.rules.specs.After.{own-row, own-beat, beat, core-after, banks-after, next}
+use Rattle.rules.specs.After.{own-row, beat, core-after, banks-after, next}
 use Rattle.rules.specs.Run.{Line, Run, line, with-line, run}
 use Rattle.rules.specs.Harder.{NowhereHarder, NearBanks}
 use Rattle.rules.proofs.Near.{near-at, near-row, near-self}

@@ -1,16 +1,16 @@
 -- Under a table that is nowhere harder: each rule that the harder table keeps is kept, and what a record leaves is near. Assumes nothing.
-use Prim.Native.Nat.{ℕ, _+_, _*_, _≤_, max}
+use Prim.Native.Nat.{ℕ, _≤_}
 use native.Mathlib.Nat.{le-refl, mul-le-mul-right}
 use native.Mathlib.Omega.{arith}
 use mathlib.Core.Path.{_≡_}
-use mathlib.Core.Bool.{Bool, true, false, _&&_, _||_, cond}
+use mathlib.Core.Bool.{Bool, true, false, _&&_, cond}
 use mathlib.Core.List.{List}
 use lib.Dec.{eqb}
 use Rattle.units.specs.declared.Clock.{Clock}
 use Rattle.units.specs.declared.Ps.{Ps}
 use Rattle.units.specs.declared.Event.{Event}
 use Rattle.units.specs.declared.Event.the-variants.{Never, On}
-use Rattle.units.specs.Time.{at, plus}
+use Rattle.units.specs.Time.{at}
 use Rattle.speed.specs.declared.SpeedTable.{SpeedTable}
 use Rattle.layout.specs.declared.Record.{Record}
 use Rattle.layout.specs.declared.Command.{Command}
@@ -31,7 +31,7 @@ use Rattle.rules.specs.declared.Verdict.the-variants.{Taken}
 use Rattle.rules.specs.Numbers.{tRCD, tRAS, tRC, tRP, tRRD, tRFC, tWR, tMRD}
 use Rattle.rules.specs.Parts.{clock-of, now, word}
 use Rattle.rules.specs.StartUp.{begun, counted-refresh}
-use Rattle.rules.specs.Banks.{bank-at, open-within}
+use Rattle.rules.specs.Banks.{open-within}
 use Rattle.rules.specs.Minima.{Since, met}
 use Rattle.rules.specs.Closing.{burst-end, closing-time, closes-within}
 use Rattle.rules.specs.Rules.{

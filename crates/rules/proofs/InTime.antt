@@ -4,23 +4,21 @@ use native.Mathlib.Omega.{arith}
 use mathlib.Core.Path.{_≡_, refl, sym, _∙_, subst}
 use mathlib.Core.Bool.{Bool, true, false, cond}
 use mathlib.Core.List.{List, [], _∷_, _++_}
-use lib.Dec.{leb, eqb}
+use lib.Dec.{eqb}
 use lib.ListN.{length}
 use borrow.Author.Tests.{le-leb}
-use Rattle.units.specs.declared.Event.{Event}
 use Rattle.units.proofs.Both.{joined}
 use Rattle.layout.specs.declared.Record.{Record}
 use Rattle.layout.specs.Commands.{command, executable}
 use Rattle.layout.specs.Widths.{Widths, AllWidths}
 use Rattle.rules.specs.declared.State.{State}
 use Rattle.rules.specs.declared.Setup.{Setup}
-use Rattle.rules.specs.declared.Verdict.{Verdict}
-use Rattle.rules.specs.declared.Verdict.the-variants.{Taken, Refused}
+use Rattle.rules.specs.declared.Verdict.the-variants.{Refused}
 use Rattle.rules.specs.Numbers.{asked}
 use Rattle.rules.specs.Parts.{next-clock, clock-of}
 use Rattle.rules.specs.Rules.{clock-max, every-rules, place-rules, minimum-rules, mode-rules, bus-rules, command-rules, rules, ask}
 use Rattle.rules.specs.After.{core-from, core-after, next}
-use Rattle.rules.specs.Run.{Run, run}
+use Rattle.rules.specs.Run.{run}
 use Rattle.rules.proofs.Kept.{every-rules-of, command-rules-of, rules-of, all-numbers, numbers-asked, broken-number, all-of, all-of-join, absent, broken-of}
 use Rattle.rules.proofs.Runs.{by-answer, next-number}
 

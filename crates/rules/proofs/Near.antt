@@ -3,7 +3,7 @@ use Prim.Native.Nat.{ℕ, zero, suc, _≤_}
 use native.Mathlib.Nat.{le-refl}
 use native.Mathlib.Omega.{arith}
 use mathlib.Core.Path.{_≡_, refl}
-use mathlib.Core.Bool.{Bool, true, false, not, _&&_, _||_, cond}
+use mathlib.Core.Bool.{Bool, true, false, not, _||_, cond}
 use mathlib.Core.List.{List, [], _∷_, _++_}
 use lib.Dec.{eqb}
 use Rattle.units.specs.declared.Clock.{Clock}
@@ -17,9 +17,9 @@ use Rattle.layout.specs.Commands.{is, access, covers}
 use Rattle.rules.specs.declared.Status.the-variants.{Closed}
 use Rattle.rules.specs.declared.Bank.{Bank}
 use Rattle.rules.specs.declared.StartUp.{StartUp}
-use Rattle.rules.specs.Numbers.{_⇒_, tRCD, tRAS, tRC, tRRD, tWR}
+use Rattle.rules.specs.Numbers.{tRCD, tRAS, tRC, tRRD, tWR}
 use Rattle.rules.specs.StartUp.{begun}
-use Rattle.rules.specs.Banks.{bank-at, row-of, opened, last-store, is-open, is-closed, closed, every, banks-found}
+use Rattle.rules.specs.Banks.{bank-at, row-of, opened, last-store, is-open, closed, every, banks-found}
 use Rattle.rules.specs.Minima.{
   Since,
   since,

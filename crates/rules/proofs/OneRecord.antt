@@ -2,10 +2,10 @@
 use Prim.Native.Nat.{ℕ, _≤_, _<_}
 use native.Mathlib.Nat.{le-refl}
 use native.Mathlib.Omega.{arith}
-use mathlib.Core.Path.{_≡_, refl, ap, subst}
-use mathlib.Core.Bool.{Bool, true, false, _&&_, cond}
-use mathlib.Core.List.{List, [], _∷_}
-use lib.Dec.{T, leb, eqb}
+use mathlib.Core.Path.{_≡_, refl, subst}
+use mathlib.Core.Bool.{Bool, true, false, cond}
+use mathlib.Core.List.{List}
+use lib.Dec.{leb, eqb}
 use borrow.Author.Tests.{leb-true}
 use Rattle.units.specs.declared.Ps.{Ps}
 use Rattle.units.proofs.Both.{both}
@@ -24,11 +24,11 @@ use Rattle.rules.specs.declared.State.{State}
 use Rattle.rules.specs.declared.Setup.{Setup}
 use Rattle.rules.specs.declared.Verdict.{Verdict}
 use Rattle.rules.specs.declared.Verdict.the-variants.{Taken, Refused}
-use Rattle.rules.specs.Numbers.{first-broken, number-of}
+use Rattle.rules.specs.Numbers.{first-broken}
 use Rattle.rules.specs.Rules.{every-rules, place-rules, minimum-rules, mode-rules, bus-rules, command-rules, rules, ask}
 use Rattle.rules.specs.Fits.{bank-fits, core-fits, fits, number-max}
 use Rattle.rules.specs.Admitted.{Admitted}
-use Rattle.rules.specs.After.{own-row, own-beat, beat, core-after, banks-after, next}
+use Rattle.rules.specs.After.{own-beat, beat, core-after, banks-after, next}
 use Rattle.rules.specs.OneRecord.{period-fits, state-rules, entry-rules, Stepped, stepped, answer-of, refused, taken, judged, step}
 use Rattle.rules.specs.Harder.{NowhereHarder, Near, same, earlier, NearBanks, NearStates, near}
 use Rattle.rules.proofs.Tests.{_⊑_, ⊑-self, ⊑-true, ⊑-leb, ⊑-and, Softer, end, _▸_, softer-taken}

@@ -1,6 +1,5 @@
 -- Laws of a run: by its first record's answer, what it reports, and that what it took is a clean trace of its own. Assumes nothing.
-use Prim.Native.Nat.{ℕ, _+_, _≤_}
-use native.Mathlib.Nat.{le-refl}
+use Prim.Native.Nat.{ℕ, _+_}
 use native.Mathlib.Omega.{arith}
 use mathlib.Core.Path.{_≡_, refl, ap, _∙_}
 use mathlib.Core.List.{List, [], _∷_}
@@ -12,7 +11,7 @@ use Rattle.rules.specs.declared.Verdict.{Verdict}
 use Rattle.rules.specs.declared.Verdict.the-variants.{Taken, Refused}
 use Rattle.rules.specs.Rules.{ask}
 use Rattle.rules.specs.After.{core-from, core-after, next}
-use Rattle.rules.specs.Run.{Run, Line, line, with-line, run}
+use Rattle.rules.specs.Run.{Run, line, with-line, run}
 
 pub run-taken : (u : Setup) (s : State) (r : Record) (rs : List Record) → ask u s r ≡ Taken
     → run u s (r ∷ rs) ≡ with-line (line s r) (run u (next u s r) rs)

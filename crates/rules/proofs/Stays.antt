@@ -1,9 +1,9 @@
 -- A state that a taken record leaves is admitted again, and clocks only grow. Assumes nothing.
-use Prim.Native.Nat.{ℕ, zero, suc, _+_, _*_, _%_, _^_, _≤_, _<_, max, min}
-use native.Mathlib.Nat.{le-refl, le-trans, mul-le-mul, mod-lt}
+use Prim.Native.Nat.{ℕ, zero, suc, _+_, _*_, _%_, _^_, _≤_, _<_}
+use native.Mathlib.Nat.{le-refl, le-trans, mul-le-mul}
 use native.Mathlib.Omega.{arith}
 use mathlib.Core.Path.{_≡_, refl}
-use mathlib.Core.Bool.{Bool, true, false, _&&_, _||_, cond}
+use mathlib.Core.Bool.{Bool, true, false, _&&_, cond}
 use mathlib.Core.List.{List, [], _∷_}
 use lib.Dec.{eqb}
 use lib.ListN.{getD, take}
@@ -13,9 +13,7 @@ use Rattle.units.specs.declared.Ps.{Ps}
 use Rattle.units.specs.declared.Event.{Event}
 use Rattle.units.specs.declared.Event.the-variants.{Never, On}
 use Rattle.units.specs.Module.{rows, columns}
-use Rattle.units.specs.Time.{at, plus, clocks-after}
 use Rattle.units.proofs.Both.{both}
-use Rattle.speed.specs.declared.SpeedTable.{SpeedTable}
 use Rattle.layout.specs.declared.Record.{Record}
 use Rattle.layout.specs.declared.Command.{Command}
 use Rattle.layout.specs.declared.Command.the-variants.{
@@ -33,10 +31,8 @@ use Rattle.layout.specs.Commands.{command, is, executable, covers, precharge-al
 use Rattle.layout.specs.Widths.{Widths}
 use Rattle.mode.specs.Word.{legal, single, length-of, write-length}
 use Rattle.bursts.specs.declared.Burst.{Burst}
-use Rattle.bursts.specs.declared.Bus.{Bus}
-use Rattle.bursts.specs.declared.Beat.{Beat}
-use Rattle.bursts.specs.Burst.{no-burst, burst-at, sooner, cut-if, cut-by, ends}
-use Rattle.bursts.specs.Bus.{no-reads, cut-each, reads-from, reads-after, write-after, bus-after, stores-in}
+use Rattle.bursts.specs.Burst.{no-burst, burst-at, sooner, cut-if, ends}
+use Rattle.bursts.specs.Bus.{no-reads, cut-each, reads-from, bus-after, stores-in}
 use Rattle.rules.specs.declared.Refreshes.{Refreshes}
 use Rattle.rules.specs.declared.Refreshes.the-variants.{None, One, Two}
 use Rattle.rules.specs.declared.Register.{Register}
@@ -49,10 +45,10 @@ use Rattle.rules.specs.declared.State.{State}
 use Rattle.rules.specs.declared.Setup.{Setup}
 use Rattle.rules.specs.declared.Verdict.the-variants.{Taken}
 use Rattle.rules.specs.Numbers.{asked, _⇒_}
-use Rattle.rules.specs.Parts.{clock-of, ps, now, word-in, word, start, no-bank}
+use Rattle.rules.specs.Parts.{clock-of, now, word-in, word, start, no-bank}
 use Rattle.rules.specs.StartUp.{begun, last-refresh}
 use Rattle.rules.specs.Banks.{bank-at, row-of}
-use Rattle.rules.specs.Closing.{burst-end, closing-time}
+use Rattle.rules.specs.Closing.{burst-end}
 use Rattle.rules.specs.Rules.{
   clock-max,
   asks-auto,
@@ -65,26 +61,8 @@ use Rattle.rules.specs.Rules.{
   rules,
   ask,
 }
-use Rattle.rules.specs.After.{
-  one-more,
-  startup-after,
-  core-from,
-  core-after,
-  with-status,
-  precharged,
-  auto-closed,
-  activated,
-  bank-after,
-  marked,
-  each-bank,
-  commanded,
-  mark-banks,
-  banks-after,
-  own-row,
-  own-beat,
-  next,
-}
-use Rattle.rules.specs.Fits.{number-max, closing-max}
+use Rattle.rules.specs.After.{one-more, startup-after, core-from, core-after, precharged, auto-closed, bank-after, marked, each-bank, commanded, mark-banks, banks-after, own-row, own-beat, next}
+use Rattle.rules.specs.Fits.{number-max}
 use Rattle.rules.specs.Admitted.{
   FitEvent,
   FitStatus,

@@ -1,11 +1,10 @@
 -- What a taken record leaves: the next state (01, Commands, Auto precharge, Beats). Definitions only.
 use Prim.Native.Nat.{ℕ, suc, _+_}
-use mathlib.Core.Bool.{Bool, true, false, _&&_, cond}
+use mathlib.Core.Bool.{Bool, _&&_, cond}
 use mathlib.Core.List.{List, [], _∷_}
 use lib.Dec.{eqb}
 use Rattle.units.specs.declared.Clock.{Clock}
 use Rattle.units.specs.declared.Ps.{Ps}
-use Rattle.units.specs.declared.Event.{Event}
 use Rattle.units.specs.declared.Event.the-variants.{Never, On}
 use Rattle.speed.specs.declared.SpeedTable.{SpeedTable}
 use Rattle.layout.specs.declared.Record.{Record}
@@ -17,7 +16,6 @@ use Rattle.bursts.specs.declared.Beat.{Beat}
 use Rattle.bursts.specs.Bus.{write-after, reads-after, bus-after, beat-on, stores-in}
 use Rattle.rules.specs.declared.Refreshes.{Refreshes}
 use Rattle.rules.specs.declared.Refreshes.the-variants.{None, One, Two}
-use Rattle.rules.specs.declared.Register.{Register}
 use Rattle.rules.specs.declared.Register.the-variants.{Loaded}
 use Rattle.rules.specs.declared.StartUp.{StartUp}
 use Rattle.rules.specs.declared.Status.{Status}

@@ -1,4 +1,4 @@
--- The bench cases P1 to P12 of document 01, and what they leave open: two tables under one statement each. Assumes nothing.
+-- The bench cases P1 to P12 of document 01: one table under one statement. Assumes nothing.
 use Prim.Native.Nat.{ℕ, zero, suc, _+_}
 use mathlib.Core.Bool.{Bool, true, false, _&&_}
 use mathlib.Core.List.{List, [], _∷_}
@@ -8,17 +8,7 @@ use Rattle.speed.specs.declared.SpeedTable.{SpeedTable}
 use Rattle.speed.specs.Table.{table, grade-13E, grade-133}
 use Rattle.layout.specs.declared.Record.{Record}
 use Rattle.layout.specs.declared.Command.{Command}
-use Rattle.layout.specs.declared.Command.the-variants.{
-  Inhibit,
-  Nop,
-  Active,
-  Read,
-  Write,
-  Terminate,
-  Precharge,
-  Refresh,
-  LoadMode,
-}
+use Rattle.layout.specs.declared.Command.the-variants.{Nop, Active, Read, Write, Terminate, Precharge, Refresh, LoadMode}
 use Rattle.layout.specs.Commands.{code-of}
 use Rattle.mode.specs.Word.{length-of}
 use Rattle.mode.specs.Order.{beat-column}
@@ -27,10 +17,7 @@ use Rattle.bursts.specs.declared.Beat.{Beat}
 use Rattle.bursts.specs.declared.Beat.the-variants.{Quiet, Stores, Drives}
 use Rattle.bursts.specs.Burst.{has-beat, write-beat, read-beat, finished}
 use Rattle.bursts.specs.Bus.{masks-on, masks-after, reads-from, bus-after, beat-on, bursts-finished, driven, bus-clear}
-use Rattle.rules.specs.declared.Setup.{Setup}
-use Rattle.rules.specs.declared.Verdict.{Verdict}
-use Rattle.rules.specs.declared.Verdict.the-variants.{Taken, Refused}
-use Rattle.rules.specs.Numbers.{number-of, interval-of, tRCD, tRAS, tRC, tRP, tRRD, tRFC, tWR, tMRD}
+use Rattle.rules.specs.Numbers.{number-of, interval-of, tRCD, tRP, tRFC, tWR}
 use Rattle.rules.specs.Parts.{start}
 use Rattle.rules.specs.StartUp.{allowed}
 use Rattle.rules.specs.Banks.{banks-found}

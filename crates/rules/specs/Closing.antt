@@ -1,6 +1,6 @@
 -- When auto precharge closes a bank: numbers 21 and 22 (01, Auto precharge). Definitions only.
 use Prim.Native.Nat.{ℕ}
-use mathlib.Core.Bool.{Bool, true, false, not, _&&_, _||_, cond}
+use mathlib.Core.Bool.{Bool, true, not, _&&_, _||_, cond}
 use Rattle.units.specs.declared.Clock.{Clock}
 use Rattle.units.specs.declared.Ps.{Ps}
 use Rattle.units.specs.Time.{at, by, plus, later, clocks-after}

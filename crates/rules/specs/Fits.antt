@@ -1,10 +1,9 @@
 -- What a state may hold: number 25 (01, Verdicts). Definitions only.
 use Prim.Native.Nat.{ℕ, _^_}
-use mathlib.Core.Bool.{Bool, true, false, _&&_}
+use mathlib.Core.Bool.{Bool, true, _&&_}
 use mathlib.Core.List.{List, [], _∷_}
 use lib.Dec.{leb, ltb}
 use Rattle.units.specs.declared.Clock.{Clock}
-use Rattle.units.specs.declared.Ps.{Ps}
 use Rattle.units.specs.declared.Event.{Event}
 use Rattle.units.specs.declared.Event.the-variants.{Never, On}
 use Rattle.units.specs.Module.{banks, rows, columns}

@@ -11,7 +11,7 @@ use Rattle.mode.specs.Word.{length-of}
 use Rattle.mode.specs.Order.{beat-column}
 use Rattle.bursts.specs.Burst.{has-beat, write-beat, read-beat, finished}
 use Rattle.bursts.specs.Bus.{masks-on, masks-after, reads-from, bus-after, beat-on, bursts-finished, driven, bus-clear}
-use Rattle.rules.specs.Numbers.{tRCD, tRAS, tRC, tRP, tRRD, tRFC, tWR, tMRD}
+use Rattle.rules.specs.Numbers.{tRAS, tRC, tRP, tRRD, tMRD}
 use Rattle.rules.specs.StartUp.{allowed}
 use Rattle.rules.specs.Banks.{banks-found}
 use Rattle.rules.specs.Minima.{of-closing, of-any, of-active, of-access, of-precharged, of-precharge, of-idle, events, minima}

@@ -14,3 +14,4 @@ pub mod Report
 pub mod Harder
 pub mod Cases
 pub mod FurtherCases
+pub mod StateCases

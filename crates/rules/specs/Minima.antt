@@ -10,7 +10,6 @@ use Rattle.layout.specs.declared.Record.{Record}
 use Rattle.layout.specs.declared.Command.{Command}
 use Rattle.layout.specs.declared.Command.the-variants.{Active, Precharge, Refresh, LoadMode}
 use Rattle.layout.specs.Commands.{is, access, covers}
-use Rattle.rules.specs.declared.Status.{Status}
 use Rattle.rules.specs.declared.Bank.{Bank}
 use Rattle.rules.specs.declared.StartUp.{StartUp}
 use Rattle.rules.specs.Numbers.{tRCD, tRAS, tRC, tRP, tRRD, tRFC, tWR, tMRD}

@@ -14,7 +14,6 @@ use Rattle.bursts.specs.declared.Beat.the-variants.{Quiet}
 use Rattle.page.specs.Store.{stored}
 use Rattle.rules.specs.declared.State.{State}
 use Rattle.rules.specs.declared.Setup.{Setup}
-use Rattle.rules.specs.declared.Verdict.{Verdict}
 use Rattle.rules.specs.declared.Verdict.the-variants.{Taken, Refused}
 use Rattle.rules.specs.declared.Answer.{Answer}
 use Rattle.rules.specs.Numbers.{Rule, rule, first-broken}

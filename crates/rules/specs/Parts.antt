@@ -1,6 +1,6 @@
 -- The state's parts as the rules name them, the clock of a record, and the state before the first record. Definitions only.
 use Prim.Native.Nat.{ℕ, suc, _+_}
-use mathlib.Core.List.{List, [], _∷_}
+use mathlib.Core.List.{[], _∷_}
 use Rattle.units.specs.declared.Clock.{Clock}
 use Rattle.units.specs.declared.Ps.{Ps}
 use Rattle.units.specs.declared.Event.{Event}

@@ -1,6 +1,5 @@
 -- Beats as two words for each record in a lent slice of numbers, and a run of records with what it leaves. Definitions only.
 use Prim.Native.Nat.{ℕ, _+_, _*_, _/_, _%_, _^_}
-use mathlib.Core.Bool.{_&&_}
 use mathlib.Core.List.{List, [], _∷_, _++_}
 use lib.Dec.{leb, eqb}
 use lib.ListN.{length, set}
@@ -22,13 +21,7 @@ use Rattle.rules.specs.Fits.{number-max}
 use Rattle.rules.specs.Run.{Line, line}
 use Rattle.rules.specs.OneRecord.{state-rules}
 
--- the kinds of a beat in its word: 0 none, 1 read, 2 write
-abbrev pub kind-of : Beat → ℕ
-kind-of Quiet = 0
-kind-of (Drives c) = 1
-kind-of (Stores c) = 2
-
--- bits 0 to 7 the lanes, 8 to 23 the column, 24 to 39 the row, 40 to 47 the bank, 48 to 55 the kind
+-- bits 0 to 7 the lanes, 8 to 23 the column, 24 to 39 the row, 40 to 47 the bank, 48 to 55 the kind: 1 read, 2 write
 abbrev pub cells-word : ℕ → Cells → ℕ
 cells-word kind c = kind * 2 ^ 48 + c .bank * 2 ^ 40 + c .row * 2 ^ 24 + c .column * 2 ^ 8 + c .lanes
 

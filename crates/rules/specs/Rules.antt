@@ -1,6 +1,6 @@
 -- The verdict table for a record, rows 10 to 22 with 16 as eight rows (01, Verdicts). Definitions only.
 use Prim.Native.Nat.{ℕ, _^_}
-use mathlib.Core.Bool.{Bool, true, false, not, _&&_, _||_, cond}
+use mathlib.Core.Bool.{Bool, true, _&&_, _||_, cond}
 use mathlib.Core.List.{List, [], _∷_, _++_}
 use lib.Dec.{leb, eqb}
 use Rattle.units.specs.declared.Clock.{Clock}

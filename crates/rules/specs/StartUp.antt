@@ -1,7 +1,5 @@
 -- What is allowed at each step of start-up: number 14 (01, Start-up). Definitions only.
-use Prim.Native.Nat.{ℕ}
 use mathlib.Core.Bool.{Bool, true, false, _&&_, _||_, cond}
-use Rattle.units.specs.declared.Clock.{Clock}
 use Rattle.units.specs.declared.Ps.{Ps}
 use Rattle.units.specs.declared.Event.{Event}
 use Rattle.units.specs.declared.Event.the-variants.{Never, On}

@@ -9,6 +9,12 @@ use units::Clock;
 use units::Event;
 use units::Ps;
 
+// "The record's clock above 2^40" is number 23; in a state, "a clock above 2^40" is 25.
+pub const CLOCK_MAX: u64 = 1_099_511_627_776;
+
+// "A record number above 2^41" is number 25.
+pub const NUMBER_MAX: u64 = 2_199_023_255_552;
+
 // The refreshes done: none, one, or two and more, with the clock of the last.
 pub enum Refreshes {
     None,

@@ -26,7 +26,7 @@ use Rattle.rules.specs.declared.Bank.{Bank}
 use Rattle.rules.specs.declared.Core.{Core}
 use Rattle.rules.specs.declared.State.{State}
 use Rattle.rules.specs.declared.Setup.{Setup}
-use Rattle.rules.specs.declared.Verdict.the-variants.{Taken, Refused}
+use Rattle.rules.specs.declared.Verdict.the-variants.{Taken}
 use Rattle.rules.specs.Parts.{clock-of, word-in}
 use Rattle.rules.specs.StartUp.{begun}
 use Rattle.rules.specs.Banks.{bank-at, row-of}

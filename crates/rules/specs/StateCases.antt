@@ -1,0 +1,264 @@
+-- The one-record call from states, also from such as no trace reaches: 1, 3, 6, 7 and 25 in their order, each bound of 25 from both
+-- sides, and what an event ahead or a bank not started gives. From document 01's sentences. Assumes nothing.
+use Prim.Native.Nat.{ℕ, _+_, _^_}
+use mathlib.Core.Bool.{Bool, true, false, _&&_}
+use mathlib.Core.List.{List, [], _∷_}
+use lib.Dec.{eqb, T}
+use lib.ListN.{replicate}
+use Rattle.units.specs.declared.Event.{Event}
+use Rattle.units.specs.declared.Event.the-variants.{Never, On}
+use Rattle.units.specs.Time.{clock, time}
+use Rattle.speed.specs.declared.SpeedTable.{SpeedTable}
+use Rattle.speed.specs.Table.{table, grade-133, table-fits}
+use Rattle.layout.specs.Bytes.{record-from}
+use Rattle.mode.specs.Word.{length-of}
+use Rattle.mode.specs.Order.{beat-column}
+use Rattle.bursts.specs.declared.Burst.{Burst}
+use Rattle.bursts.specs.declared.Bus.{Bus}
+use Rattle.bursts.specs.Burst.{no-burst, has-beat, write-beat, read-beat, finished}
+use Rattle.bursts.specs.Bus.{
+  all-masks-high,
+  quiet-bus,
+  masks-on,
+  masks-after,
+  reads-from,
+  bus-after,
+  beat-on,
+  bursts-finished,
+  driven,
+  bus-clear,
+}
+use Rattle.page.specs.Store.{put-lanes, stored}
+use Rattle.rules.specs.declared.Refreshes.the-variants.{None, One, Two}
+use Rattle.rules.specs.declared.Register.the-variants.{Unloaded, Loaded}
+use Rattle.rules.specs.declared.StartUp.{StartUp}
+use Rattle.rules.specs.declared.Status.{Status}
+use Rattle.rules.specs.declared.Status.the-variants.{NotStarted, Open, Closed}
+use Rattle.rules.specs.declared.Bank.{Bank}
+use Rattle.rules.specs.declared.State.{State}
+use Rattle.rules.specs.Numbers.{tRC, tRP}
+use Rattle.rules.specs.Parts.{no-bank}
+use Rattle.rules.specs.StartUp.{allowed}
+use Rattle.rules.specs.Banks.{banks-found}
+use Rattle.rules.specs.Minima.{of-closing, of-any, of-active, of-access, of-precharged, of-precharge, of-idle, events, minima}
+use Rattle.rules.specs.Rules.{every-rules, place-rules, minimum-rules, mode-rules, bus-rules, command-rules, rules, ask}
+use Rattle.rules.specs.After.{
+  startup-after,
+  beat,
+  core-from,
+  core-after,
+  bank-after,
+  commanded,
+  mark-banks,
+  banks-after,
+  next,
+}
+use Rattle.rules.specs.Fits.{bank-fits, burst-fits, core-fits, fits}
+use Rattle.rules.specs.OneRecord.{state-rules, entry-rules, judged, step}
+
+-- ── Records as bytes: skipped clocks up to 255, CKE HIGH, masks FF, DQ 0 ──
+
+-- the byte of CKE, CS# RAS# CAS# WE#, BA and A12; and A11 to A4
+abbrev rec : ℕ → ℕ → ℕ → List ℕ
+rec skipped pins address = 0 ∷ 0 ∷ skipped ∷ pins ∷ address ∷ 0x0f ∷ 0xf0 ∷ 0 ∷ replicate 8 0
+
+abbrev nop : List ℕ
+nop = rec 0 0xb8 0
+
+-- A10 HIGH is bit 6 of A11 to A4
+abbrev all-banks : ℕ → List ℕ
+all-banks skipped = rec skipped 0x90 0x40
+
+abbrev precharge-1 : List ℕ
+precharge-1 = rec 0 0x92 0
+
+abbrev active-1 : List ℕ
+active-1 = rec 0 0x9a 0
+
+-- a bit that must be 0; CKE LOW
+abbrev zero-set : List ℕ
+zero-set = 0 ∷ 0 ∷ 0 ∷ 0xb8 ∷ 0 ∷ 0x0f ∷ 0xf0 ∷ 1 ∷ replicate 8 0
+
+abbrev cke-low : List ℕ
+cke-low = rec 0 0x38 0
+
+-- ── States ──
+
+abbrev not-begun : StartUp
+not-begun = record { allclosed = Never; refreshes = None; register = Unloaded }
+
+-- start-up over, long ago
+abbrev over : StartUp
+over = record { allclosed = On (clock 0); refreshes = Two (clock 900); register = Loaded 0x31 (clock 950) }
+
+abbrev state : ℕ → ℕ → ℕ → ℕ → Event → StartUp → Bus → List Bank → State
+state period bank row number last startup bus banks =
+    record {
+      core =
+          record {
+            period = time period;
+            bank = bank;
+            row = row;
+            number = number;
+            last = last;
+            startup = startup;
+            bus = bus;
+          };
+      banks = banks;
+    }
+
+abbrev four : Bank → List Bank
+four b = no-bank ∷ b ∷ no-bank ∷ no-bank ∷ []
+
+-- as at the start of a trace, but for one part
+abbrev with-number : ℕ → State
+with-number k = state 7500 0 0 k Never not-begun quiet-bus (four no-bank)
+
+abbrev with-last : ℕ → State
+with-last n = state 7500 0 0 5 (On (clock n)) not-begun quiet-bus (four no-bank)
+
+abbrev watching : ℕ → ℕ → State
+watching bank row = state 7500 bank row 5 Never not-begun quiet-bus (four no-bank)
+
+abbrev with-startup : StartUp → State
+with-startup u = state 7500 0 0 5 Never u quiet-bus (four no-bank)
+
+abbrev with-bank : Bank → State
+with-bank b = state 7500 0 0 5 Never not-begun quiet-bus (four b)
+
+abbrev with-write : Burst → State
+with-write b = state 7500 0 0 5 Never not-begun (record { write = b; reads = quiet-bus .reads; masks = all-masks-high }) (four no-bank)
+
+-- a burst in the last of the four READs' places
+abbrev with-fourth : Burst → State
+with-fourth b =
+    state 7500 0 0 5 Never not-begun
+    (record { write = no-burst; reads = no-burst ∷ no-burst ∷ no-burst ∷ b ∷ []; masks = all-masks-high })
+    (four no-bank)
+
+-- after start-up, the last record on clock 1,000, and bank 1 like this
+abbrev begun : Bank → State
+begun b = state 7500 0 0 5 (On (clock 1_000)) over quiet-bus (four b)
+
+abbrev bank : Status → Event → Event → Bank
+bank status active stored = record { status = status; active = active; stored = stored }
+
+abbrev dead : ℕ → ℕ → ℕ → ℕ → Event → ℕ → Burst
+dead bank row column start cut word =
+    record { live = false; auto = false; bank = bank; row = row; column = column; start = clock start; cut = cut; word = word }
+
+-- ── A case ──
+
+pub record Case : Type 0 where
+  pub given : SpeedTable
+  pub state : State
+  pub bytes : List ℕ
+  pub lent : ℕ
+  pub number : ℕ
+  pub interval : ℕ
+  pub reported : ℕ
+
+-- grade -133 and a page of the right size
+abbrev gives : State → List ℕ → ℕ → ℕ → ℕ → Case
+gives s bytes number interval reported =
+    record {
+      given = grade-133;
+      state = s;
+      bytes = bytes;
+      lent = 16384;
+      number = number;
+      interval = interval;
+      reported = reported;
+    }
+
+-- with this table and a page of so many bytes
+abbrev gives-with : SpeedTable → ℕ → State → List ℕ → ℕ → Case
+gives-with t lent s bytes number =
+    record { given = t; state = s; bytes = bytes; lent = lent; number = number; interval = 0; reported = 0 }
+
+abbrev right : Case → Bool
+right k = let a = step (record { table = k .given }) (k .state) (k .bytes) (replicate (k .lent) 0) .answer in
+    eqb (a .number) (k .number) && eqb (a .interval) (k .interval) && eqb (a .reported) (k .reported)
+
+abbrev all-right : List Case → Bool
+all-right [] = true
+all-right (k ∷ ks) = right k && all-right ks
+
+-- "a time above 200,000,000"
+abbrev unfit : SpeedTable
+unfit = table 10_000 7_500 44_000 120_000_000 66_000 20_000 20_000 15_000 66_000 15_000 7_500 200_000_001 2
+
+-- a state that 25 refuses, of this period
+abbrev wrong : ℕ → State
+wrong period = state period 0 0 (2 ^ 41 + 1) Never not-begun quiet-bus (four no-bank)
+
+abbrev pub cases : List Case
+cases =
+    -- "A record not 16 bytes long gives 1, then 3, 6, 7, 25 and 10 to the end follow": all faults at once, mended one by one
+    gives-with unfit 16383 (wrong 999) (replicate 15 0) 1
+    ∷ gives-with unfit 16383 (wrong 999) (replicate 17 0) 1
+    ∷ gives-with unfit 16383 (wrong 999) zero-set 3
+    ∷ gives-with unfit 16383 (wrong 65_536) zero-set 3
+    ∷ gives-with unfit 16383 (wrong 1_000) zero-set 6
+    ∷ gives-with grade-133 16383 (wrong 65_535) zero-set 7
+    ∷ gives-with grade-133 16385 (wrong 7_500) zero-set 7
+    ∷ gives (wrong 7_500) zero-set 25 0 0
+    ∷ gives (with-number 5) zero-set 10 0 5
+    -- "a taken record 0 and its own number"; "10 and all below it report the record's number"
+    ∷ gives (with-number 5) nop 0 0 5
+    ∷ gives (with-number 5) active-1 14 0 5
+    -- "a record number above 2^41"
+    ∷ gives (with-number (2 ^ 41)) nop 0 0 (2 ^ 41)
+    ∷ gives (with-number (2 ^ 41 + 1)) nop 25 0 0
+    -- "a clock above 2^40"; 23 stands between 10 and 11
+    ∷ gives (with-last (2 ^ 40 + 1)) nop 25 0 0
+    ∷ gives (with-last (2 ^ 40)) nop 23 0 5
+    ∷ gives (with-last (2 ^ 40)) zero-set 10 0 5
+    ∷ gives (with-last (2 ^ 40)) cke-low 23 0 5
+    ∷ gives (with-last 0) cke-low 11 0 5
+    -- "a bank, row or column off the module": the watched ones
+    ∷ gives (watching 3 8191) nop 0 0 5
+    ∷ gives (watching 4 0) nop 25 0 0
+    ∷ gives (watching 0 8192) nop 25 0 0
+    -- start-up: its clocks, "a reserved mode word"
+    ∷ gives (with-startup (record { allclosed = On (clock (2 ^ 40)); refreshes = One (clock (2 ^ 40)); register = Loaded 0x31 (clock (2 ^ 40)) })) nop 0 0 5
+    ∷ gives (with-startup (record { allclosed = On (clock (2 ^ 40 + 1)); refreshes = None; register = Unloaded })) nop 25 0 0
+    ∷ gives (with-startup (record { allclosed = Never; refreshes = One (clock (2 ^ 40 + 1)); register = Unloaded })) nop 25 0 0
+    ∷ gives (with-startup (record { allclosed = Never; refreshes = Two (clock (2 ^ 40 + 1)); register = Unloaded })) nop 25 0 0
+    ∷ gives (with-startup (record { allclosed = Never; refreshes = None; register = Loaded 0x31 (clock (2 ^ 40 + 1)) })) nop 25 0 0
+    ∷ gives (with-startup (record { allclosed = Never; refreshes = None; register = Loaded 0x34 (clock 0) })) nop 25 0 0
+    -- a bank: row, clocks, "a time above 2^58 ps"
+    ∷ gives (with-bank (bank (Open 8191 (clock (2 ^ 40))) (On (clock (2 ^ 40))) (On (clock (2 ^ 40))))) nop 0 0 5
+    ∷ gives (with-bank (bank (Open 8192 (clock 0)) Never Never)) nop 25 0 0
+    ∷ gives (with-bank (bank (Open 0 (clock (2 ^ 40 + 1))) Never Never)) nop 25 0 0
+    ∷ gives (with-bank (bank NotStarted (On (clock (2 ^ 40 + 1))) Never)) nop 25 0 0
+    ∷ gives (with-bank (bank NotStarted Never (On (clock (2 ^ 40 + 1))))) nop 25 0 0
+    ∷ gives (with-bank (bank (Closed (time (2 ^ 58))) Never Never)) nop 0 0 5
+    ∷ gives (with-bank (bank (Closed (time (2 ^ 58 + 1))) Never Never)) nop 25 0 0
+    -- a burst, also one that is no longer live, in either place
+    ∷ gives (with-write (dead 3 8191 2047 (2 ^ 40) (On (clock (2 ^ 40))) 0x31)) nop 0 0 5
+    ∷ gives (with-write (dead 4 0 0 0 Never 0x31)) nop 25 0 0
+    ∷ gives (with-write (dead 0 8192 0 0 Never 0x31)) nop 25 0 0
+    ∷ gives (with-write (dead 0 0 2048 0 Never 0x31)) nop 25 0 0
+    ∷ gives (with-write (dead 0 0 0 (2 ^ 40 + 1) Never 0x31)) nop 25 0 0
+    ∷ gives (with-write (dead 0 0 0 0 (On (clock (2 ^ 40 + 1))) 0x31)) nop 25 0 0
+    ∷ gives (with-write (dead 0 0 0 0 Never 0x34)) nop 25 0 0
+    ∷ gives (with-fourth (dead 3 8191 2047 (2 ^ 40) (On (clock (2 ^ 40))) 0x31)) nop 0 0 5
+    ∷ gives (with-fourth (dead 0 0 2048 0 Never 0x31)) nop 25 0 0
+    -- "An event still ahead counts too": no maximum is passed by a refresh or an ACTIVE ahead, and no minimum is met
+    ∷ gives (with-startup (record { allclosed = Never; refreshes = Two (clock (2 ^ 40)); register = Unloaded })) nop 0 0 5
+    ∷ gives (begun (bank (Open 7 (clock 2_000)) (On (clock 2_000)) Never)) nop 0 0 5
+    ∷ gives (begun (bank (Closed (time 0)) (On (clock 2_000)) Never)) active-1 16 tRC 5
+    ∷ gives (begun (bank (Closed (time 8_000_000)) Never Never)) active-1 16 tRP 5
+    -- a bank not started is neither open nor closed: ACTIVE gives 15, a PRECHARGE asks nothing of it
+    ∷ gives (begun no-bank) active-1 15 0 5
+    ∷ gives (begun no-bank) precharge-1 0 0 5
+    ∷ gives (begun (bank (Closed (time 0)) Never Never)) active-1 0 0 5
+    -- "The first PRECHARGE ALL closes all banks and has no other condition" but its time
+    ∷ gives (state 65_535 0 0 5 (On (clock 1_520)) not-begun quiet-bus (four (bank (Open 7 (clock 1_525)) (On (clock 1_525)) (On (clock 1_525))))) (all-banks 5) 0 0 5
+    ∷ gives (state 65_535 0 0 5 (On (clock 1_519)) not-begun quiet-bus (four no-bank)) (all-banks 5) 14 0 5
+    ∷ []
+
+pub cases-right : T (all-right cases)
+unfolding table-fits record-from length-of beat-column has-beat write-beat read-beat finished masks-on masks-after reads-from bus-after beat-on bursts-finished driven bus-clear put-lanes stored allowed banks-found of-closing of-any of-active of-access of-precharged of-precharge of-idle events minima every-rules place-rules minimum-rules mode-rules bus-rules command-rules rules ask startup-after beat core-from core-after bank-after commanded mark-banks banks-after next bank-fits burst-fits core-fits fits state-rules entry-rules judged step
+cases-right = tt
