@@ -6,7 +6,7 @@ use mathlib.Core.Path.{_≡_, refl, ap, sym, subst, _∙_}
 use mathlib.Core.List.{List, [], _∷_, _++_}
 use lib.ListN.{length, take}
 use Rattle.speed.specs.declared.SpeedTable.{SpeedTable}
-use Rattle.speed.specs.Table.{grade-13E, grade-133}
+use Rattle.speed.specs.Table.{table, grade-13E, grade-133}
 use Rattle.layout.specs.declared.Record.{Record}
 use Rattle.rules.specs.declared.Bank.{Bank}
 use Rattle.rules.specs.declared.Core.{Core}
@@ -72,6 +72,25 @@ demand-3-before {t} e s rs =
 -- of the two grades, -13E is nowhere harder than -133
 pub grades : NowhereHarder grade-133 grade-13E
 grades =
+    record {
+      tck2 = omega arith;
+      tck3 = omega arith;
+      trasmin = omega arith;
+      trasmax = omega arith;
+      trc = omega arith;
+      trcd = omega arith;
+      trp = omega arith;
+      trrd = omega arith;
+      trfc = omega arith;
+      twr = omega arith;
+      addition = omega arith;
+      interval = omega arith;
+      tmrd = omega arith;
+    }
+
+-- a table that is easier in every number is nowhere harder: each minimum smaller, each maximum larger
+easier-in-all : NowhereHarder grade-133 (table 9_999 7_499 43_999 120_000_001 65_999 19_999 19_999 14_999 65_999 14_999 7_499 7_812_501 1)
+easier-in-all =
     record {
       tck2 = omega arith;
       tck3 = omega arith;
