@@ -14,4 +14,5 @@ pub mod Report
 pub mod Harder
 pub mod Cases
 pub mod FurtherCases
+pub mod OrderCases
 pub mod StateCases
