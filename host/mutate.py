@@ -1,0 +1,238 @@
+#!/usr/bin/env python3
+"""The mutation run: the wrong edits of host/mutations.txt, one at a time, and whether the check refuses each.
+
+    python3 host/mutate.py                   every edit that has no result yet
+        --only CRATE  --from N  --to N       a part of them; N is an edit's number in the list
+        --jobs 1|2                           how many at a time (1)
+        --again                              also those that have a result
+    python3 host/mutate.py --list            the edits with their results; each must fit the files as they are
+    python3 host/mutate.py --report          counts, and each edit that was not refused for a fact
+
+An edit is made in a copy of the repository under target/mutate, with what is proved already. A library is then checked by `rt dev`, a
+program by `rt check`, which also runs it; `upto NAME` in an edit has `rt check NAME` prove the edited crate and all up to NAME. An edit is
+
+    killed    a proof, a table of cases or a run fails; the first error is shown
+    misfit    refused, but only because a proof file no longer fits the code's shape, or the text makes no sense: it shows nothing
+    SURVIVED  the check passes: a wrong program or definition that nothing shuts out, or an edit that changes nothing
+
+Results are kept in target/mutate/results.json under the edit and the crate's files, so a run goes on where it was broken off, and a
+changed crate is tried again.
+"""
+import argparse
+import concurrent.futures
+import hashlib
+import json
+import os
+import queue
+import re
+import shutil
+import subprocess
+import sys
+import threading
+import time
+
+HERE = os.path.dirname(os.path.abspath(__file__))
+ROOT = os.path.dirname(HERE)
+HOME = os.path.join(ROOT, "target", "mutate")
+RESULTS = os.path.join(HOME, "results.json")
+SECONDS = 1800
+MISFIT = re.compile(r"has no `Need-|error\[|does not parse|is not in scope|cannot be named|no such name|unbound")
+ERROR = re.compile(r"crates/(\S+?:\d+):\d+: (?:error|note: it is not proved)")
+RUN = re.compile(r"^rt: (\S+: what the program wrote .*)$", re.M)
+
+
+class Edit:
+    def __init__(self, number, block):
+        lines = block.strip("\n").split("\n")
+        self.number, self.file, self.nth, self.upto = number, lines[0], 0, ""
+        self.once = True
+        for line in lines[1:]:
+            word, _, rest = line.partition(" ")
+            if word in ("old:", "new:", "why:"):
+                setattr(self, word[:-1], rest)
+            elif word == "nth":
+                self.nth, self.once = int(rest) - 1, False
+            elif word == "upto":
+                self.upto = rest
+            else:
+                sys.exit("host/mutations.txt: what is this? " + line)
+        self.crate = self.file.split("/")[0]
+
+    def applied(self, text):
+        """The text with the edit, or none where it does not fit."""
+        parts = text.split(self.old)
+        if len(parts) < 2 + self.nth or (self.once and len(parts) > 2):
+            return None
+        return self.old.join(parts[: self.nth + 1]) + self.new + self.old.join(parts[self.nth + 1 :])
+
+
+def edits():
+    with open(os.path.join(HERE, "mutations.txt")) as f:
+        blocks = [b for b in f.read().split("\n\n") if b.strip() and not b.lstrip().startswith("#")]
+    return [Edit(i + 1, block) for i, block in enumerate(blocks)]
+
+
+def path_of(e, root=ROOT):
+    """The edited file, in the repository or in a copy of it."""
+    return os.path.join(root, "crates", e.file)
+
+
+def key_of(e):
+    """The edit, and the files of its crate as they are now."""
+    sums = hashlib.sha256(repr((e.file, e.old, e.new, e.nth, e.upto)).encode())
+    for folder, folders, files in os.walk(os.path.join(ROOT, "crates", e.crate)):
+        folders.sort()
+        for name in sorted(files):
+            with open(os.path.join(folder, name), "rb") as f:
+                sums.update(name.encode() + b"\0" + f.read())
+    return sums.hexdigest()[:32]
+
+
+class Results:
+    def __init__(self):
+        self.lock = threading.Lock()
+        self.all = {}
+        if os.path.exists(RESULTS):
+            with open(RESULTS) as f:
+                self.all = json.load(f)
+
+    def put(self, e, result):
+        with self.lock:
+            self.all[key_of(e)] = result
+            with open(RESULTS + ".new", "w") as f:
+                json.dump(self.all, f, indent=1)
+            os.replace(RESULTS + ".new", RESULTS)
+
+
+def fresh(place):
+    """A copy of the repository with all that is proved."""
+    shutil.rmtree(place, ignore_errors=True)
+    os.makedirs(os.path.join(place, "target"))
+    shutil.copytree(os.path.join(ROOT, "crates"), os.path.join(place, "crates"))
+    shutil.copy(os.path.join(ROOT, "crates.txt"), place)
+    for part in ("rlib", "stamp", "obj", "bin", "log"):
+        if os.path.exists(os.path.join(ROOT, "target", part)):
+            shutil.copytree(os.path.join(ROOT, "target", part), os.path.join(place, "target", part))
+    return place
+
+
+def program(crate):
+    return os.path.exists(os.path.join(ROOT, "crates", crate, "src", "main.rt"))
+
+
+def command(e):
+    if e.upto:
+        return ["rt", "check", e.upto]
+    return ["rt", "check", e.crate] if program(e.crate) else ["rt", "dev", e.crate]
+
+
+def judged(status, text):
+    """killed, misfit or SURVIVED, and the first error."""
+    if status == 0:
+        return "SURVIVED", ""
+    first = ERROR.search(text)
+    ran = RUN.search(text)
+    if not first:
+        return ("killed", ran.group(1)) if ran else ("misfit", "no error was found in what the check said")
+    line = text[first.start() : text.find("\n", first.start())]
+    where = first.group(1) + " " + " ".join(re.findall(r"`[^` ]+`", line)[:1])
+    tables = sorted(set(re.findall(r"specs/\S+: error: (`[^`]+`): expected type `T ", text)))
+    return "misfit" if MISFIT.search(line) else "killed", where + (", tables " + " ".join(tables) if tables else "")
+
+
+def tried(e, place):
+    """Makes the edit in the copy, checks, and puts the file back."""
+    with open(path_of(e)) as f:
+        text = f.read()
+    with open(path_of(e, place), "w") as f:
+        f.write(e.applied(text))
+    start = time.time()
+    environment = dict(os.environ, RT_JOBS="1", RT_CUT="400")
+    try:
+        done = subprocess.run(command(e), cwd=place, env=environment, stdout=subprocess.PIPE, stderr=subprocess.STDOUT, timeout=SECONDS)
+        verdict, where = judged(done.returncode, done.stdout.decode(errors="replace"))
+    except subprocess.TimeoutExpired:
+        verdict, where = "misfit", "no verdict in %d seconds" % SECONDS
+    with open(path_of(e, place), "w") as f:
+        f.write(text)
+    # what a passed check, or one of several crates, has left there is not what is proved
+    if verdict == "SURVIVED" or command(e)[1] == "check":
+        fresh(place)
+    return {"verdict": verdict, "where": where, "seconds": round(time.time() - start, 1), "edit": "%s: %s" % (e.file, e.why)}
+
+
+def shown(e, r):
+    return "%3d %-8s %6.1f s  %s: %s\n        %s" % (e.number, r["verdict"], r["seconds"], e.file, e.why, r["where"])
+
+
+def run(todo, jobs, results):
+    places = queue.Queue()
+    for i in range(jobs):
+        places.put(fresh(os.path.join(HOME, "copy-%d" % (i + 1))))
+
+    def one(e):
+        place = places.get()
+        try:
+            r = tried(e, place)
+        finally:
+            places.put(place)
+        results.put(e, r)
+        print(shown(e, r), flush=True)
+
+    with concurrent.futures.ThreadPoolExecutor(jobs) as pool:
+        list(pool.map(one, todo))
+
+
+def counted(all_edits, results):
+    counts = {}
+    for e in all_edits:
+        verdict = results.all.get(key_of(e), {"verdict": "not tried"})["verdict"]
+        counts[verdict] = counts.get(verdict, 0) + 1
+    return "%d edits: " % len(all_edits) + ", ".join("%d %s" % (n, verdict) for verdict, n in sorted(counts.items()))
+
+
+def unfit(all_edits):
+    """The edits that do not fit the files as they are."""
+    wrong = []
+    for e in all_edits:
+        with open(path_of(e)) as f:
+            if e.applied(f.read()) is None:
+                wrong.append(e)
+    return wrong
+
+
+def asked():
+    p = argparse.ArgumentParser(description="The mutation run.")
+    p.add_argument("--only", metavar="CRATE")
+    p.add_argument("--from", dest="first", type=int, default=1, metavar="N")
+    p.add_argument("--to", dest="last", type=int, default=1 << 30, metavar="N")
+    p.add_argument("--jobs", type=int, choices=(1, 2), default=1)
+    for word in ("again", "list", "report"):
+        p.add_argument("--" + word, action="store_true")
+    return p.parse_args()
+
+
+def main():
+    a = asked()
+    os.makedirs(HOME, exist_ok=True)
+    every, results = edits(), Results()
+    wrong = unfit(every)
+    for e in wrong:
+        print("does not fit: %d %s: %s" % (e.number, e.file, e.old))
+    if wrong:
+        return 2
+    part = [e for e in every if a.first <= e.number <= a.last and a.only in (None, e.crate)]
+    has = {e.number: results.all.get(key_of(e)) for e in part}
+    if a.list or a.report:
+        for e in part:
+            r = has[e.number] or {"verdict": "-", "seconds": 0, "where": ""}
+            if a.list or r["verdict"] in ("misfit", "SURVIVED"):
+                print(shown(e, r))
+    else:
+        run([e for e in part if a.again or not has[e.number]], a.jobs, results)
+    print(counted(part, results))
+    return 1 if any((results.all.get(key_of(e)) or {}).get("verdict") == "SURVIVED" for e in part) else 0
+
+
+if __name__ == "__main__":
+    sys.exit(main())
