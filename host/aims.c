@@ -197,8 +197,10 @@ static void aim_late(struct making *m)
     struct draft r = coin(m) ? draft_nop(m) : any_fitting(m);
     if (!m->refused)
         put_at_limit(m, &r);
-    if (!m->refused && coin(m))
-        at_skip(m, any_fitting(m), random_below(&m->random, 2));
+    if (m->refused || !coin(m))
+        return;
+    r = any_fitting(m);
+    at_skip(m, r, random_below(&m->random, 2));
 }
 
 /* A PRECHARGE ALL before its 100,000,000 ps, another command once they have
@@ -225,7 +227,8 @@ static void aim_start_up(struct making *m)
 
 static void aim_bank(struct making *m)
 {
-    struct draft r = read_or_write(m, some_closed_bank(m), random_chance(&m->random, 200));
+    uint64_t bank = some_closed_bank(m);
+    struct draft r = read_or_write(m, bank, random_chance(&m->random, 200));
     switch (random_below(&m->random, 4)) {
     case 0:
         r = draft_active(m, opened_bank(m));
@@ -275,11 +278,14 @@ static void aim_bus(struct making *m)
     legal(m, draft_read(m, bank, false));
     if (random_chance(&m->random, 300))
         legal(m, coin(m) ? draft_burst_terminate(m) : draft_read(m, bank, false));
-    for (uint64_t nops = random_below(&m->random, 8); nops > 0 && !m->refused; nops--)
-        at_skip(m, draft_nop(m), random_chance(&m->random, 850) ? 0 : 1);
-    if (!m->refused)
-        at_skip(m, draft_write(m, bank, random_chance(&m->random, 100)),
-                random_chance(&m->random, 600) ? 0 : random_below(&m->random, 4));
+    for (uint64_t nops = random_below(&m->random, 8); nops > 0 && !m->refused; nops--) {
+        struct draft nop = draft_nop(m);
+        at_skip(m, nop, random_chance(&m->random, 850) ? 0 : 1);
+    }
+    if (m->refused)
+        return;
+    struct draft r = draft_write(m, bank, random_chance(&m->random, 100));
+    at_skip(m, r, random_chance(&m->random, 600) ? 0 : random_below(&m->random, 4));
 }
 
 /* Auto precharge in a full-page mode; other modes get 0 or 22. */
@@ -307,7 +313,8 @@ static void aim_auto_late(struct making *m)
 
 static void aim_any(struct making *m)
 {
-    at_skip(m, any_fitting(m), random_below(&m->random, 6));
+    struct draft r = any_fitting(m);
+    at_skip(m, r, random_below(&m->random, 6));
 }
 
 void take_aim(struct making *m, enum aim aim)

@@ -50,6 +50,12 @@ static uint64_t any_address(struct making *m)
     return random_below(&m->random, 8192);
 }
 
+static struct draft draft_anywhere(struct making *m, uint64_t code)
+{
+    uint64_t bank = any_bank(m);
+    return draft_of(m, code, bank, any_address(m));
+}
+
 /* ---- Banks ---- */
 
 bool some_open(const struct making *m)
@@ -123,7 +129,7 @@ struct draft draft_nop(struct making *m)
     uint64_t code = CODE_NOP;
     if (random_chance(&m->random, 200))
         code = random_between(&m->random, CODE_COMMAND_INHIBIT, 15);
-    return draft_of(m, code, any_bank(m), any_address(m));
+    return draft_anywhere(m, code);
 }
 
 struct draft draft_active(struct making *m, uint64_t bank)
@@ -148,17 +154,19 @@ struct draft draft_precharge(struct making *m, uint64_t bank)
 
 struct draft draft_precharge_all(struct making *m)
 {
-    return draft_of(m, CODE_PRECHARGE, any_bank(m), any_address(m) | DRAFT_A10);
+    struct draft r = draft_anywhere(m, CODE_PRECHARGE);
+    r.address |= DRAFT_A10;
+    return r;
 }
 
 struct draft draft_refresh(struct making *m)
 {
-    return draft_of(m, CODE_AUTO_REFRESH, any_bank(m), any_address(m));
+    return draft_anywhere(m, CODE_AUTO_REFRESH);
 }
 
 struct draft draft_burst_terminate(struct making *m)
 {
-    return draft_of(m, CODE_BURST_TERMINATE, any_bank(m), any_address(m));
+    return draft_anywhere(m, CODE_BURST_TERMINATE);
 }
 
 /* Length 1, 2, 4, 8 or full page; interleaved or not; CL 2 or 3; M9. */
@@ -190,7 +198,7 @@ struct draft draft_reserved_mode(struct making *m)
 
 struct draft draft_any(struct making *m)
 {
-    return draft_of(m, random_below(&m->random, 9), any_bank(m), any_address(m));
+    return draft_anywhere(m, random_below(&m->random, 9));
 }
 
 /* ---- The walk ---- */

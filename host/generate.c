@@ -89,8 +89,10 @@ static void fit_tck(struct random *r, uint64_t *table, uint64_t period)
     for (unsigned i = 0; i < 2; i++)
         if (table[i] > period)
             table[i] = random_chance(r, 300) ? period : random_below(r, period);
-    if (random_chance(r, 150))
-        table[random_below(r, 2)] = period + random_between(r, 1, 2000);
+    if (random_chance(r, 150)) {
+        uint64_t place = random_below(r, 2);
+        table[place] = period + random_between(r, 1, 2000);
+    }
 }
 
 /* A grade's table, one with some numbers altered, or an own one; with maxima

@@ -1,4 +1,6 @@
-/* Random numbers from a seed (splitmix64), the same on every machine. */
+/* Random numbers from a seed (splitmix64), the same on every machine. No two of
+ * them are drawn in the arguments of one call or on both sides of one assignment:
+ * C leaves open which comes first, and a seed would be another case elsewhere. */
 #ifndef RANDOM_H
 #define RANDOM_H
 
