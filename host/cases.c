@@ -41,18 +41,34 @@ static size_t watched_beats(const struct test_case *c)
     return c->beats_len + WATCHED_PAST_BEATS;
 }
 
+size_t watched_bytes(const struct test_case *c)
+{
+    return offsetof(struct outcome, beats) + watched_beats(c) * sizeof(uint64_t);
+}
+
+void lend_case(const struct test_case *c, struct outcome *out)
+{
+    out->answer = UNTOUCHED;
+    memcpy(out->page, c->page, CASE_PAGE_ROOM);
+    for (size_t i = 0; i < watched_beats(c); i++)
+        out->beats[i] = UNTOUCHED;
+}
+
 /* The trace is lent from the very end of a buffer, so that a sanitizer sees a
  * read past it. */
-void run_case(judge_function *judge, const struct test_case *c, struct outcome *out)
+void judge_lent(judge_function *judge, const struct test_case *c, struct outcome *out)
 {
     static uint8_t room[CASE_TRACE_ROOM];
     uint8_t *trace = room + (CASE_TRACE_ROOM - c->trace_len);
     memcpy(trace, c->trace, c->trace_len);
-    memcpy(out->page, c->page, CASE_PAGE_ROOM);
-    for (size_t i = 0; i < watched_beats(c); i++)
-        out->beats[i] = UNTOUCHED;
     out->answer = judge(trace, c->trace_len, out->page, c->page_len, out->beats, c->beats_len,
                         c->table);
+}
+
+void run_case(judge_function *judge, const struct test_case *c, struct outcome *out)
+{
+    lend_case(c, out);
+    judge_lent(judge, c, out);
 }
 
 /* Whether the watched beats from this one on are as they were. */

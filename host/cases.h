@@ -18,9 +18,9 @@ enum {
 
 struct test_case {
     uint64_t table[13];
-    size_t page_len;
-    size_t trace_len;
-    size_t beats_len;
+    uint64_t page_len;
+    uint64_t trace_len;
+    uint64_t beats_len;
     uint8_t page[CASE_PAGE_ROOM];
     uint8_t trace[CASE_TRACE_ROOM];
 };
@@ -28,8 +28,8 @@ struct test_case {
 /* All that a judge leaves. What lies past the lent lengths is watched too. */
 struct outcome {
     uint64_t answer;
-    uint64_t beats[CASE_BEATS_ROOM];
     uint8_t page[CASE_PAGE_ROOM];
+    uint64_t beats[CASE_BEATS_ROOM];
 };
 
 typedef uint64_t judge_function(const uint8_t *trace, size_t trace_len,
@@ -60,7 +60,14 @@ size_t records_taken(uint64_t answer);
 /* The lent page: the `count` bytes given, again and again. */
 void fill_page(struct test_case *c, const uint8_t *bytes, size_t count);
 
+/* The page and the beats as a judge gets them, with an answer that is none; what
+ * it then leaves; both at once. */
+void lend_case(const struct test_case *c, struct outcome *out);
+void judge_lent(judge_function *judge, const struct test_case *c, struct outcome *out);
 void run_case(judge_function *judge, const struct test_case *c, struct outcome *out);
+
+/* The bytes of an outcome, from its start, that are lent and watched. */
+size_t watched_bytes(const struct test_case *c);
 
 /* The part in which two judges left something else, NULL for none. With no beats
  * the second of them must have left these as they were. */

@@ -27,6 +27,19 @@ static void print_answer(const char *name, uint64_t answer)
            answer_record(answer), answer_interval(answer));
 }
 
+bool outcomes_agree(const struct test_case *c, const char *label, const struct outcome *first,
+                    const struct outcome *other, const char *name, bool beats)
+{
+    const char *what = difference(c, first, other, beats);
+    if (what == NULL)
+        return true;
+    printf("%s: %s differs", label, what);
+    print_answer(judges[0].name, first->answer);
+    print_answer(name, other->answer);
+    printf("\n");
+    return false;
+}
+
 bool judges_agree(const struct test_case *c, const char *label, struct outcome *first)
 {
     static struct outcome other;
@@ -38,14 +51,8 @@ bool judges_agree(const struct test_case *c, const char *label, struct outcome *
     }
     for (size_t j = 1; j < judges_count; j++) {
         run_case(judges[j].judge, c, &other);
-        const char *what = difference(c, first, &other, judges[j].beats);
-        if (what == NULL)
-            continue;
-        printf("%s: %s differs", label, what);
-        print_answer(judges[0].name, first->answer);
-        print_answer(judges[j].name, other.answer);
-        printf("\n");
-        agree = false;
+        if (!outcomes_agree(c, label, first, &other, judges[j].name, judges[j].beats))
+            agree = false;
     }
     return agree;
 }

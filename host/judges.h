@@ -20,4 +20,9 @@ extern const size_t judges_count;
  * printed under the label. `first` is what the first judge left. */
 bool judges_agree(const struct test_case *c, const char *label, struct outcome *first);
 
+/* True if the judge of this name left in `other` what the first judge left. A
+ * difference is printed under the label. */
+bool outcomes_agree(const struct test_case *c, const char *label, const struct outcome *first,
+                    const struct outcome *other, const char *name, bool beats);
+
 #endif

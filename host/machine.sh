@@ -49,10 +49,14 @@ target_cc() {
     if on_x86_64; then echo gcc; else echo "x86_64-linux-gnu-gcc -static"; fi
 }
 
-# run_target PROGRAM ARGUMENT...: runs an x86-64 program. The emulated processor is the plain one:
+# The words before an x86-64 program that make it run. The emulated processor is the plain one:
 # what libc does with the wider registers of a newer one is slow to emulate.
+emulator=()
+if ! on_x86_64; then emulator=(qemu-x86_64 -L /usr/x86_64-linux-gnu -cpu qemu64); fi
+
+# run_target PROGRAM ARGUMENT...: runs an x86-64 program.
 run_target() {
-    if on_x86_64; then "$@"; else qemu-x86_64 -L /usr/x86_64-linux-gnu -cpu qemu64 "$@"; fi
+    "${emulator[@]}" "$@"
 }
 
 # make_host ARGUMENT...: make in host/, its words on standard error.

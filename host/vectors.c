@@ -89,14 +89,16 @@ static bool read_page(struct test_case *c)
 static bool read_case(char *line, struct test_case *c, struct expected *e)
 {
     const char *first = strtok(line, " \n");
+    size_t trace_len;
     if (first == NULL)
         return false;
     c->table[0] = strtoull(first, NULL, 10);
     for (size_t i = 1; i < 13; i++)
         if (!read_number(&c->table[i], 10))
             return false;
-    if (!read_page(c) || !read_hex(strtok(NULL, " \n"), c->trace, sizeof c->trace, &c->trace_len))
+    if (!read_page(c) || !read_hex(strtok(NULL, " \n"), c->trace, sizeof c->trace, &trace_len))
         return false;
+    c->trace_len = trace_len;
     c->beats_len = 2 * (c->trace_len / 16);
     return read_number(&e->number, 10) && read_number(&e->record, 10) &&
            read_number(&e->interval, 10) && read_number(&e->beats, 10) &&
