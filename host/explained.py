@@ -5,7 +5,8 @@
     python3 host/explained.py --check    compares these files with what it would write, and the examples with the list here
     python3 host/explained.py --run      runs ./explain on each trace and compares all that it says
 
-Every line is worked out by hand from document 01: a clock times the period, and the speed table's figures. No program is run for it.
+The figures, events and rules of each line are document 01's, worked out by hand: a clock times the period, and the speed table's figures.
+The wording is the program's own.
 """
 import os
 import subprocess
