@@ -133,6 +133,10 @@ def judged(status, text):
     first = ERROR.search(text)
     ran = RUN.search(text)
     if not first:
+        # A function with no proof file: the checker looks for the proof itself, and finds none of what is no longer true.
+        sought = re.search(r"^fn (\S+): no proof: .*`search` does not close `returns", text, re.M)
+        if sought:
+            return "killed", sought.group(1) + ": no proof is found"
         return ("killed", ran.group(1)) if ran else ("misfit", "no error was found in what the check said")
     line = text[first.start() : text.find("\n", first.start())]
     where = first.group(1) + " " + " ".join(re.findall(r"`[^` ]+`", line)[:1])
