@@ -1,7 +1,7 @@
 -- What is short of each command's minima, as the code computes it. Assumes nothing.
 use Prim.Native.Nat.{ℕ}
-use mathlib.Core.Path.{_≡_, refl}
-use mathlib.Core.Bool.{Bool, true, false, cond, or-false}
+use mathlib.Core.Path.{_≡_, refl, sym}
+use mathlib.Core.Bool.{Bool, true, false, _&&_, _||_, cond, or-false, true≢false}
 use mathlib.Core.List.{List}
 use lib.Dec.{eqb}
 use lib.ListN.{length}
@@ -9,14 +9,15 @@ use Rattle.units.specs.declared.Ps.{Ps}
 use Rattle.units.specs.Time.{at}
 use Rattle.speed.specs.declared.SpeedTable.{SpeedTable}
 use Rattle.layout.specs.declared.Record.{Record}
-use Rattle.layout.specs.declared.Command.the-variants.{Active, Read, Write, Terminate, Precharge, Refresh, LoadMode}
-use Rattle.layout.specs.Commands.{covers}
+use Rattle.layout.specs.declared.Command.{Command}
+use Rattle.layout.specs.declared.Command.the-variants.{Inhibit, Nop, Active, Read, Write, Terminate, Precharge, Refresh, LoadMode}
+use Rattle.layout.specs.Commands.{is, access, covers}
 use Rattle.rules.specs.declared.StartUp.{StartUp}
 use Rattle.rules.specs.declared.Bank.{Bank}
 use Rattle.rules.specs.Numbers.{tRCD, tRP, tRRD}
 use Rattle.rules.specs.StartUp.{last-refresh, last-load}
 use Rattle.rules.specs.Banks.{bank-at}
-use Rattle.rules.specs.Minima.{of-closing, of-any, of-other, of-active, of-access, of-precharged, of-covered, of-precharge, of-idle, events}
+use Rattle.rules.specs.Minima.{only, of-closing, of-any, of-other, of-active, of-access, of-precharged, of-covered, of-precharge, of-idle, events}
 use Rattle.asking.specs.Shorts.{
   shorts,
   no-shorts,
@@ -78,10 +79,10 @@ module _ (t : SpeedTable) (period now : Ps) where
       (simp or-false)
 
   -- READ and WRITE
-  pub access-shorts : (b : Bank)
-      → shorts t period now (of-access period b)
+  pub access-shorts : (x : Bool) (b : Bank)
+      → shorts t period now (only x (of-access period b))
       ≡ record {
-        rcd = short-opened period (b .status) (t .trcd) now;
+        rcd = x && short-opened period (b .status) (t .trcd) now;
         ras = false;
         rc = false;
         rp = false;
@@ -91,7 +92,8 @@ module _ (t : SpeedTable) (period now : Ps) where
         mrd = false;
       }
   unfolding of-access
-  access-shorts b = shorts-opened t period now tRCD (b .status)
+  access-shorts true b = shorts-opened t period now tRCD (b .status)
+  access-shorts false b = shorts-none t period now
 
   -- PRECHARGE of one bank
   pub precharged-shorts : (b : Bank)
@@ -145,17 +147,19 @@ module _ (t : SpeedTable) (period now : Ps) where
     unfolding events
     events-active = simp (shorts-join, shorts-only, either-none, none-either)
 
-    pub events-read : shorts t period now (events Read period u r bs) ≡ either (shorts t period now (of-any period u)) (shorts t period now (of-access period (bank-at bs (r .ba))))
+    -- WRITE, READ and BURST TERMINATE
+    pub events-burst : (k : Command) → (access k || is k Terminate) ≡ true
+        → shorts t period now (events k period u r bs) ≡ either (shorts t period now (of-any period u)) (shorts t period now (only (access k) (of-access period (bank-at bs (r .ba)))))
     unfolding events
-    events-read = simp (shorts-join, shorts-only, either-none, none-either)
-
-    pub events-write : shorts t period now (events Write period u r bs) ≡ either (shorts t period now (of-any period u)) (shorts t period now (of-access period (bank-at bs (r .ba))))
-    unfolding events
-    events-write = simp (shorts-join, shorts-only, either-none, none-either)
-
-    pub events-terminate : shorts t period now (events Terminate period u r bs) ≡ shorts t period now (of-any period u)
-    unfolding events
-    events-terminate = simp (shorts-join, shorts-only, either-none, none-either)
+    events-burst Inhibit h = absurd (true≢false (sym h))
+    events-burst Nop h = absurd (true≢false (sym h))
+    events-burst Active h = absurd (true≢false (sym h))
+    events-burst Read h = simp (shorts-join, shorts-only, either-none, none-either)
+    events-burst Write h = simp (shorts-join, shorts-only, either-none, none-either)
+    events-burst Terminate h = simp (shorts-join, shorts-only, either-none, none-either)
+    events-burst Precharge h = absurd (true≢false (sym h))
+    events-burst Refresh h = absurd (true≢false (sym h))
+    events-burst LoadMode h = absurd (true≢false (sym h))
 
     pub events-precharge : shorts t period now (events Precharge period u r bs) ≡ either (shorts t period now (of-any period u)) (shorts t period now (of-precharge period r bs))
     unfolding events

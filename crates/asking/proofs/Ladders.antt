@@ -1,6 +1,6 @@
 -- Rows 14 to 22 as the code asks them: for each command, only what document 01 asks of it. Assumes nothing.
-use mathlib.Core.Path.{_≡_, refl, ap, _∙_}
-use mathlib.Core.Bool.{Bool, true, false, _&&_, cond, and-true}
+use mathlib.Core.Path.{_≡_, refl, sym, ap, _∙_}
+use mathlib.Core.Bool.{Bool, true, false, not, _&&_, _||_, cond, and-true, true≢false}
 use mathlib.Core.List.{List, [], _∷_, _++_}
 use lib.Dec.{eqb}
 use Rattle.units.specs.declared.Clock.{Clock}
@@ -20,7 +20,7 @@ use Rattle.layout.specs.declared.Command.the-variants.{
   Refresh,
   LoadMode,
 }
-use Rattle.layout.specs.Commands.{a10, precharge-all}
+use Rattle.layout.specs.Commands.{a10, is, access, precharge-all}
 use Rattle.mode.specs.Word.{legal}
 use Rattle.bursts.specs.Bus.{bursts-finished, bus-clear}
 use Rattle.rules.specs.declared.StartUp.{StartUp}
@@ -34,16 +34,14 @@ use Rattle.rules.specs.Parts.{word}
 use Rattle.rules.specs.Closing.{burst-end, ends-by-itself, closes-within}
 use Rattle.rules.specs.StartUp.{begun, two-done, last-load, power-up, allowed}
 use Rattle.rules.specs.Banks.{bank-at, is-open, is-closed, closed, every, banks-found}
-use Rattle.rules.specs.Minima.{of-any, of-active, of-access, of-precharge, of-idle, events, minima}
-use Rattle.rules.specs.Rules.{tCK, place-rules, minimum-rules, mode-rules, bus-rules, command-rules}
+use Rattle.rules.specs.Minima.{only, of-any, of-active, of-access, of-precharge, of-idle, events, minima}
+use Rattle.rules.specs.Rules.{tCK, asks-auto, place-rules, minimum-rules, mode-rules, bus-rules, command-rules}
 use Rattle.asking.specs.Shorts.{shorts, either, lowest}
 use Rattle.asking.specs.Answers.{auto-answer}
 use Rattle.asking.proofs.Lowest.{minimum-lowest}
 use Rattle.asking.proofs.Events.{
   events-active,
-  events-read,
-  events-write,
-  events-terminate,
+  events-burst,
   events-precharge,
   events-refresh,
   events-load,
@@ -70,6 +68,10 @@ two-rows : (a b : Bool) (l : List Rule) → first-broken (rule 14 0 a ∷ rule 1
 two-rows true true l = refl
 two-rows true false l = refl
 two-rows false b l = refl
+
+pub implied : (a b : Bool) → (a ⇒ b) ≡ (not a || b)
+implied true b = refl
+implied false b = refl
 
 -- rows 14 and 15 as two tests before the rest
 ladder : (k : Command) (t : SpeedTable) (c : Core) (bs : List Bank) (r : Record) (n : Clock) (now : Ps)
@@ -103,22 +105,17 @@ four-rows true true false p q = refl
 four-rows true false x p q = refl
 four-rows false b x p q = refl
 
-module _ (t : SpeedTable) (c : Core) (status : Status) (r : Record) (n : Clock) where
-  abbrev pub over : Bool
-  over = bursts-finished (c .bus .write) (c .bus .reads) n
-
-  pub terminate-bus : first-broken (bus-rules Terminate t c status r n) ≡ cond over Taken (Refused 19 0)
-  unfolding bus-rules
-  terminate-bus = four-rows over true false (ends-by-itself Terminate (word c)) (closes-within t (c .period) (burst-end Terminate t (c .period) (word c) n) status)
-
-  pub read-bus : first-broken (bus-rules Read t c status r n) ≡ cond over (cond (a10 r) (auto-answer Read t c status n) Taken) (Refused 19 0)
-  unfolding bus-rules auto-answer
-  read-bus = four-rows over true (a10 r) (ends-by-itself Read (word c)) (closes-within t (c .period) (burst-end Read t (c .period) (word c) n) status)
-
-  pub write-bus : first-broken (bus-rules Write t c status r n)
-      ≡ cond over (cond (bus-clear (c .last) (c .bus .masks) (c .bus .reads) n) (cond (a10 r) (auto-answer Write t c status n) Taken) (Refused 20 0)) (Refused 19 0)
-  unfolding bus-rules auto-answer
-  write-bus = four-rows over (bus-clear (c .last) (c .bus .masks) (c .bus .reads) n) (a10 r) (ends-by-itself Write (word c)) (closes-within t (c .period) (burst-end Write t (c .period) (word c) n) status)
+-- 19 to 22 of WRITE, READ and BURST TERMINATE
+pub bus-ladder : (k : Command) → (access k || is k Terminate) ≡ true → (t : SpeedTable) (c : Core) (status : Status) (r : Record) (n : Clock)
+    → first-broken (bus-rules k t c status r n)
+    ≡ cond (bursts-finished (c .bus .write) (c .bus .reads) n)
+    (cond (is k Write ⇒ bus-clear (c .last) (c .bus .masks) (c .bus .reads) n) (cond (asks-auto k r) (auto-answer k t c status n) Taken) (Refused 20 0))
+    (Refused 19 0)
+unfolding bus-rules auto-answer
+bus-ladder k h t c status r n =
+    rw h
+    (four-rows (bursts-finished (c .bus .write) (c .bus .reads) n) (is k Write ⇒ bus-clear (c .last) (c .bus .masks) (c .bus .reads) n) (asks-auto k r)
+    (ends-by-itself k (word c)) (closes-within t (c .period) (burst-end k t (c .period) (word c) n) status))
 
 pub mode-ladder : (t : SpeedTable) (period : Ps) (r : Record)
     → first-broken (mode-rules LoadMode t period r)
@@ -177,34 +174,26 @@ module _ (t : SpeedTable) (c : Core) (bs : List Bank) (r : Record) (n : Clock) (
     unfolding allowed banks-found mode-rules bus-rules
     active-ladder = rw (ladder Active t c bs r n now, minima-begun Active, events-active, then-taken, b, and-true, and-true)
 
-    pub read-ladder : first-broken (command-rules Read t c bs r n now)
+    begun-burst : (k : Command) → (access k || is k Terminate) ≡ true
+        → first-broken (command-rules k t c bs r n now)
         ≡ cond (started (c .startup))
-        (cond (is-open (bank-at bs (r .ba) .status))
+        (cond (access k ⇒ is-open (bank-at bs (r .ba) .status))
         (then
-        (lowest (either (shorts t (c .period) now (of-any (c .period) (c .startup))) (shorts t (c .period) now (of-access (c .period) (bank-at bs (r .ba))))))
-        (first-broken (bus-rules Read t c (bank-at bs (r .ba) .status) r n)))
+        (lowest
+        (either (shorts t (c .period) now (of-any (c .period) (c .startup))) (shorts t (c .period) now (only (access k) (of-access (c .period) (bank-at bs (r .ba)))))))
+        (first-broken (bus-rules k t c (bank-at bs (r .ba) .status) r n)))
         (Refused 15 0))
         (Refused 14 0)
     unfolding allowed banks-found mode-rules
-    read-ladder = rw (ladder Read t c bs r n now, minima-begun Read, events-read, b, and-true)
-
-    pub write-ladder : first-broken (command-rules Write t c bs r n now)
-        ≡ cond (started (c .startup))
-        (cond (is-open (bank-at bs (r .ba) .status))
-        (then
-        (lowest (either (shorts t (c .period) now (of-any (c .period) (c .startup))) (shorts t (c .period) now (of-access (c .period) (bank-at bs (r .ba))))))
-        (first-broken (bus-rules Write t c (bank-at bs (r .ba) .status) r n)))
-        (Refused 15 0))
-        (Refused 14 0)
-    unfolding allowed banks-found mode-rules
-    write-ladder = rw (ladder Write t c bs r n now, minima-begun Write, events-write, b, and-true)
-
-    pub terminate-ladder : first-broken (command-rules Terminate t c bs r n now)
-        ≡ cond (started (c .startup))
-        (then (lowest (shorts t (c .period) now (of-any (c .period) (c .startup)))) (first-broken (bus-rules Terminate t c (bank-at bs (r .ba) .status) r n)))
-        (Refused 14 0)
-    unfolding allowed banks-found mode-rules
-    terminate-ladder = rw (ladder Terminate t c bs r n now, minima-begun Terminate, events-terminate, b)
+    begun-burst Inhibit h = absurd (true≢false (sym h))
+    begun-burst Nop h = absurd (true≢false (sym h))
+    begun-burst Active h = absurd (true≢false (sym h))
+    begun-burst Read h = rw (ladder Read t c bs r n now, minima-begun Read, events-burst t (c .period) now (c .startup) r bs Read h, b, and-true)
+    begun-burst Write h = rw (ladder Write t c bs r n now, minima-begun Write, events-burst t (c .period) now (c .startup) r bs Write h, b, and-true)
+    begun-burst Terminate h = rw (ladder Terminate t c bs r n now, minima-begun Terminate, events-burst t (c .period) now (c .startup) r bs Terminate h, b)
+    begun-burst Precharge h = absurd (true≢false (sym h))
+    begun-burst Refresh h = absurd (true≢false (sym h))
+    begun-burst LoadMode h = absurd (true≢false (sym h))
 
     pub precharge-ladder : first-broken (command-rules Precharge t c bs r n now)
         ≡ lowest (either (shorts t (c .period) now (of-any (c .period) (c .startup))) (shorts t (c .period) now (of-precharge (c .period) r bs)))
@@ -227,3 +216,42 @@ module _ (t : SpeedTable) (c : Core) (bs : List Bank) (r : Record) (n : Clock) (
         (Refused 14 0)
     unfolding allowed banks-found bus-rules
     load-ladder = rw (ladder LoadMode t c bs r n now, minima-begun LoadMode, events-load, then-taken, b, and-true)
+
+  -- ── WRITE, READ and BURST TERMINATE, before it or after ──
+
+  pub burst-ladder : (k : Command) → (access k || is k Terminate) ≡ true
+      → first-broken (command-rules k t c bs r n now)
+      ≡ cond (begun (c .startup) && started (c .startup))
+      (cond (access k ⇒ is-open (bank-at bs (r .ba) .status))
+      (then
+      (lowest
+      (either (shorts t (c .period) now (of-any (c .period) (c .startup))) (shorts t (c .period) now (only (access k) (of-access (c .period) (bank-at bs (r .ba)))))))
+      (first-broken (bus-rules k t c (bank-at bs (r .ba) .status) r n)))
+      (Refused 15 0))
+      (Refused 14 0)
+  burst-ladder k h = go (begun (c .startup)) refl
+    where
+      no-precharge : (k : Command) → (access k || is k Terminate) ≡ true → precharge-all k r ≡ false
+      no-precharge Inhibit h = absurd (true≢false (sym h))
+      no-precharge Nop h = absurd (true≢false (sym h))
+      no-precharge Active h = absurd (true≢false (sym h))
+      no-precharge Read h = refl
+      no-precharge Write h = refl
+      no-precharge Terminate h = refl
+      no-precharge Precharge h = absurd (true≢false (sym h))
+      no-precharge Refresh h = absurd (true≢false (sym h))
+      no-precharge LoadMode h = absurd (true≢false (sym h))
+
+      go : (x : Bool) → begun (c .startup) ≡ x
+          → first-broken (command-rules k t c bs r n now)
+          ≡ cond (begun (c .startup) && started (c .startup))
+          (cond (access k ⇒ is-open (bank-at bs (r .ba) .status))
+          (then
+          (lowest
+          (either (shorts t (c .period) now (of-any (c .period) (c .startup)))
+          (shorts t (c .period) now (only (access k) (of-access (c .period) (bank-at bs (r .ba)))))))
+          (first-broken (bus-rules k t c (bank-at bs (r .ba) .status) r n)))
+          (Refused 15 0))
+          (Refused 14 0)
+      go true b = rw b (begun-burst b k h)
+      go false b = rw (unbegun k b, no-precharge k h, b)

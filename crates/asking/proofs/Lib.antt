@@ -1,3 +1,5 @@
 pub mod Lowest
 pub mod Events
 pub mod Ladders
+pub mod Codes
+pub mod Asked

@@ -1,13 +1,17 @@
 // Asking: each command is asked only what document 01 asks of it. Asking reads, and changes nothing.
+//
+// `own` is the record's bank of `all`: a function that looks it up by its number would copy the four to do so.
 ghost use mathlib.Core.Path.{_≡_};
 ghost use mathlib.Core.Bool.{true, false};
-ghost use Rattle.layout.specs.Commands.{executable};
-ghost use Prim.Native.Nat.{_≤_};
+ghost use Rattle.layout.specs.Commands.{executable, code-of};
+ghost use Prim.Native.Nat.{_≤_, _<_};
 ghost use Rattle.layout.specs.declared.Command.the-variants as Command;
 ghost use Rattle.rules.specs.Numbers.{first-broken, asked};
 ghost use Rattle.parts.specs.Reach.{Call};
 ghost use Rattle.rules.specs.StartUp.{begun};
+ghost use Rattle.rules.specs.Banks.{bank-at};
 ghost use Rattle.rules.specs.Rules.{clock-max, command-rules, rules};
+use crate::every;
 use crate::minima;
 use crate::verdicts;
 use layout::Command;
@@ -24,82 +28,27 @@ use units::Ps;
 // "That command must stand at 100,000,000 ps or later."
 const POWER_UP: u64 = 100_000_000;
 
-fn ask_active(t: SpeedTable, c: Core, all: [Bank; 4], r: Record, n: Clock, now: Ps) -> Verdict
-    requires { ⌜ Call t c all r × (begun (c .startup) ≡ true) ⌝ }
+fn ask_active(
+    t: SpeedTable,
+    c: Core,
+    own: Bank,
+    all: [Bank; 4],
+    r: Record,
+    n: Clock,
+    now: Ps,
+) -> Verdict
+    requires { ⌜ Call t c all r × (begun (c .startup) ≡ true) × (own ≡ bank-at all (r .ba)) ⌝ }
     ensures { λ x. ⌜ x ≡ first-broken (command-rules Command.Active t c all r n now) ⌝ }
 {
     let startup = c.startup;
     if steps::started(startup) {
-        let own = all[r.ba as usize];
         let status = own.status;
         if banks::is_closed(status) {
             let any = minima::any_shorts(t, c.period, startup, now);
-            let own = minima::active_shorts(t, c.period, r.ba, all, now);
-            return minima::lowest(minima::either(any, own));
+            let others = minima::active_shorts(t, c.period, r.ba, own, all, now);
+            return minima::lowest(minima::either(any, others));
         }
         return Verdict::refused(15);
-    }
-    Verdict::refused(14)
-}
-
-fn ask_read(t: SpeedTable, c: Core, all: [Bank; 4], r: Record, n: Clock, now: Ps) -> Verdict
-    requires { ⌜ Call t c all r × (begun (c .startup) ≡ true) × (n .0 ≤ clock-max) ⌝ }
-    ensures { λ x. ⌜ x ≡ first-broken (command-rules Command.Read t c all r n now) ⌝ }
-{
-    let startup = c.startup;
-    if steps::started(startup) {
-        let own = all[r.ba as usize];
-        let status = own.status;
-        if banks::is_open(status) {
-            let any = minima::any_shorts(t, c.period, startup, now);
-            let rcd = minima::access_shorts(t, c.period, own, now);
-            let v = minima::lowest(minima::either(any, rcd));
-            let Verdict::Taken = v else {
-                return v;
-            };
-            return verdicts::read_verdict(t, c, status, r, n);
-        }
-        return Verdict::refused(15);
-    }
-    Verdict::refused(14)
-}
-
-fn ask_write(t: SpeedTable, c: Core, all: [Bank; 4], r: Record, n: Clock, now: Ps) -> Verdict
-    requires { ⌜ Call t c all r × (begun (c .startup) ≡ true) × (n .0 ≤ clock-max) ⌝ }
-    ensures { λ x. ⌜ x ≡ first-broken (command-rules Command.Write t c all r n now) ⌝ }
-{
-    let startup = c.startup;
-    if steps::started(startup) {
-        let own = all[r.ba as usize];
-        let status = own.status;
-        if banks::is_open(status) {
-            let any = minima::any_shorts(t, c.period, startup, now);
-            let rcd = minima::access_shorts(t, c.period, own, now);
-            let v = minima::lowest(minima::either(any, rcd));
-            let Verdict::Taken = v else {
-                return v;
-            };
-            return verdicts::write_verdict(t, c, status, r, n);
-        }
-        return Verdict::refused(15);
-    }
-    Verdict::refused(14)
-}
-
-fn ask_terminate(t: SpeedTable, c: Core, all: [Bank; 4], r: Record, n: Clock, now: Ps) -> Verdict
-    requires { ⌜ Call t c all r × (begun (c .startup) ≡ true) ⌝ }
-    ensures { λ x. ⌜ x ≡ first-broken (command-rules Command.Terminate t c all r n now) ⌝ }
-{
-    let startup = c.startup;
-    if steps::started(startup) {
-        let any = minima::any_shorts(t, c.period, startup, now);
-        let v = minima::lowest(any);
-        let Verdict::Taken = v else {
-            return v;
-        };
-        let own = all[r.ba as usize];
-        let status = own.status;
-        return verdicts::terminate_verdict(t, c, status, r, n);
     }
     Verdict::refused(14)
 }
@@ -148,30 +97,31 @@ fn ask_load_mode(t: SpeedTable, c: Core, all: [Bank; 4], r: Record, n: Clock, no
     Verdict::refused(14)
 }
 
-// After the first PRECHARGE ALL. NOP and COMMAND INHIBIT are asked nothing.
+// LOAD MODE, AUTO REFRESH, PRECHARGE and ACTIVE after the first PRECHARGE ALL.
 fn ask_begun(
     k: Command,
     t: SpeedTable,
     c: Core,
+    own: Bank,
     all: [Bank; 4],
     r: Record,
     n: Clock,
     now: Ps,
 ) -> Verdict
-    requires { ⌜ Call t c all r × (begun (c .startup) ≡ true) × (n .0 ≤ clock-max) ⌝ }
-    ensures { λ x. ⌜ x ≡ first-broken (asked (executable k) (command-rules k t c all r n now)) ⌝ }
+    requires { ⌜ Call t c all r × (begun (c .startup) ≡ true) × (own ≡ bank-at all (r .ba)) × (code-of k < 4) ⌝ }
+    ensures { λ x. ⌜ x ≡ first-broken (command-rules k t c all r n now) ⌝ }
 {
-    match k {
-        Command::Inhibit => Verdict::Taken,
-        Command::Nop => Verdict::Taken,
-        Command::Active => ask_active(t, c, all, r, n, now),
-        Command::Read => ask_read(t, c, all, r, n, now),
-        Command::Write => ask_write(t, c, all, r, n, now),
-        Command::Terminate => ask_terminate(t, c, all, r, n, now),
-        Command::Precharge => ask_precharge(t, c, all, r, n, now),
-        Command::Refresh => ask_refresh(t, c, all, r, n, now),
-        Command::LoadMode => ask_load_mode(t, c, all, r, n, now),
+    let code = layout::code_of(k);
+    if code == 3 {
+        return ask_active(t, c, own, all, r, n, now);
     }
+    if code == 2 {
+        return ask_precharge(t, c, all, r, n, now);
+    }
+    if code == 1 {
+        return ask_refresh(t, c, all, r, n, now);
+    }
+    ask_load_mode(t, c, all, r, n, now)
 }
 
 // "Before the first PRECHARGE ALL only NOP and COMMAND INHIBIT are allowed."
@@ -194,6 +144,59 @@ fn ask_first(
     Verdict::refused(14)
 }
 
+// 14 to 18 of LOAD MODE, AUTO REFRESH, PRECHARGE and ACTIVE, which move no data.
+pub fn ask_banks(
+    k: Command,
+    t: SpeedTable,
+    c: Core,
+    own: Bank,
+    all: [Bank; 4],
+    r: Record,
+    n: Clock,
+    now: Ps,
+) -> Verdict
+    requires { ⌜ Call t c all r × (own ≡ bank-at all (r .ba)) × (code-of k < 4) ⌝ }
+    ensures { λ x. ⌜ x ≡ first-broken (command-rules k t c all r n now) ⌝ }
+{
+    let startup = c.startup;
+    if steps::begun(startup) {
+        return ask_begun(k, t, c, own, all, r, n, now);
+    }
+    ask_first(k, t, c, all, r, n, now)
+}
+
+// 14 to 22 of WRITE, READ and BURST TERMINATE. BURST TERMINATE names no bank.
+pub fn ask_burst(
+    k: Command,
+    t: SpeedTable,
+    c: Core,
+    own: Bank,
+    all: [Bank; 4],
+    r: Record,
+    n: Clock,
+    now: Ps,
+) -> Verdict
+    requires { ⌜ Call t c all r × (own ≡ bank-at all (r .ba)) × (3 < code-of k) × (code-of k < 7) × (n .0 ≤ clock-max) ⌝ }
+    ensures { λ x. ⌜ x ≡ first-broken (command-rules k t c all r n now) ⌝ }
+{
+    let startup = c.startup;
+    let status = own.status;
+    let access = layout::is_access(k);
+    if steps::begun(startup) & steps::started(startup) {
+        if !access | banks::is_open(status) {
+            let any = minima::any_shorts(t, c.period, startup, now);
+            let rcd = minima::access_shorts(access, t, c.period, own, now);
+            let v = minima::lowest(minima::either(any, rcd));
+            let Verdict::Taken = v else {
+                return v;
+            };
+            return verdicts::bus_verdict(k, t, c, status, r, n);
+        }
+        return Verdict::refused(15);
+    }
+    Verdict::refused(14)
+}
+
 // "14 to 22 only on executable commands."
 fn ask_command(
     k: Command,
@@ -207,12 +210,13 @@ fn ask_command(
     requires { ⌜ Call t c all r × (n .0 ≤ clock-max) ⌝ }
     ensures { λ x. ⌜ x ≡ first-broken (asked (executable k) (command-rules k t c all r n now)) ⌝ }
 {
-    if layout::is_executable(k) {
-        let startup = c.startup;
-        if steps::begun(startup) {
-            return ask_begun(k, t, c, all, r, n, now);
-        }
-        return ask_first(k, t, c, all, r, n, now);
+    let own = all[r.ba as usize];
+    let code = layout::code_of(k);
+    if code < 4 {
+        return ask_banks(k, t, c, own, all, r, n, now);
+    }
+    if code < 7 {
+        return ask_burst(k, t, c, own, all, r, n, now);
     }
     Verdict::Taken
 }
@@ -224,7 +228,7 @@ pub fn ask(t: SpeedTable, c: Core, all: [Bank; 4], r: Record, n: Clock, now: Ps)
 {
     let startup = c.startup;
     let refreshes = startup.refreshes;
-    let v = verdicts::every_verdict(t, c.period, refreshes, all, r, n, now);
+    let v = every::ask_every(t, c.period, refreshes, all, r, n, now);
     let Verdict::Taken = v else {
         return v;
     };

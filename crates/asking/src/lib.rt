@@ -8,7 +8,8 @@ use rules::Setup;
 use rules::State;
 use rules::Verdict;
 
-mod commands;
+pub mod commands;
+pub mod every;
 mod maxima;
 mod minima;
 mod since;

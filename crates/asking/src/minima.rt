@@ -1,11 +1,10 @@
 // Number 16 as eight tests.
 ghost use mathlib.Core.Path.{_≡_};
-ghost use Prim.Native.Nat.{_≤_, _<_};
 ghost use Rattle.speed.specs.Bounds.{Bounds};
 ghost use Rattle.parts.specs.Reach.{FitPeriod, BanksFit};
 ghost use Rattle.rules.specs.Admitted.{FitStartUp, FitBank};
 ghost use Rattle.rules.specs.Banks.{bank-at};
-ghost use Rattle.rules.specs.Minima.{of-any, of-active, of-access, of-precharged, of-covered, of-precharge, of-idle};
+ghost use Rattle.rules.specs.Minima.{only, of-any, of-active, of-access, of-precharged, of-covered, of-precharge, of-idle};
 ghost use Rattle.asking.specs.Shorts.{shorts, no-shorts, either, lowest, short-closed, short-other, short-others, short-closings};
 use crate::Shorts;
 use crate::since;
@@ -135,11 +134,17 @@ pub fn short_others(period: Ps, ba: u8, banks: [Bank; 4], min: Ps, now: Ps) -> b
 }
 
 // "ACTIVE: tRP since its closing; tRC since its last ACTIVE; tRRD since the last ACTIVE of another bank."
-pub fn active_shorts(t: SpeedTable, period: Ps, ba: u8, banks: [Bank; 4], now: Ps) -> Shorts
-    requires { ⌜ FitPeriod period × BanksFit banks × (ba < 4) ⌝ }
+pub fn active_shorts(
+    t: SpeedTable,
+    period: Ps,
+    ba: u8,
+    own: Bank,
+    banks: [Bank; 4],
+    now: Ps,
+) -> Shorts
+    requires { ⌜ FitPeriod period × BanksFit banks × (own ≡ bank-at banks ba) ⌝ }
     ensures { λ r. ⌜ r ≡ shorts t period now (of-active period ba banks) ⌝ }
 {
-    let own = banks[ba as usize];
     let status = own.status;
     let active = own.active;
     Shorts {
@@ -154,14 +159,14 @@ pub fn active_shorts(t: SpeedTable, period: Ps, ba: u8, banks: [Bank; 4], now: P
     }
 }
 
-// "READ, WRITE: tRCD since its ACTIVE."
-pub fn access_shorts(t: SpeedTable, period: Ps, b: Bank, now: Ps) -> Shorts
+// "READ, WRITE: tRCD since its ACTIVE", where the command is one of these.
+pub fn access_shorts(access: bool, t: SpeedTable, period: Ps, b: Bank, now: Ps) -> Shorts
     requires { ⌜ FitPeriod period × FitBank b ⌝ }
-    ensures { λ r. ⌜ r ≡ shorts t period now (of-access period b) ⌝ }
+    ensures { λ r. ⌜ r ≡ shorts t period now (only access (of-access period b)) ⌝ }
 {
     let status = b.status;
     Shorts {
-        rcd: since::short_opened(period, status, t.trcd, now),
+        rcd: access & since::short_opened(period, status, t.trcd, now),
         ras: false,
         rc: false,
         rp: false,

@@ -2,7 +2,7 @@
 use Prim.Native.Nat.{ℕ, zero, suc, _+_, _≤_, _<_}
 use native.Mathlib.Omega.{arith}
 use mathlib.Core.Path.{_≡_, refl, ap, sym, subst, _∙_}
-use mathlib.Core.Bool.{Bool, true, false, not, _&&_, _||_, true≢false, and-false}
+use mathlib.Core.Bool.{Bool, true, false, not, _&&_, cond, true≢false, and-false}
 use mathlib.Core.List.{List, [], _∷_}
 use lib.Dec.{ltb, eqb}
 use lib.ListN.{length, set}
@@ -29,6 +29,7 @@ use Rattle.layout.specs.declared.Command.the-variants.{
 use Rattle.layout.specs.Commands.{command, code-of, is}
 use Rattle.bursts.specs.declared.Burst.{Burst}
 use Rattle.bursts.specs.declared.Bus.{Bus}
+use Rattle.bursts.specs.declared.Masks.{Masks}
 use Rattle.bursts.specs.declared.Beat.{Beat}
 use Rattle.bursts.specs.declared.Beat.the-variants.{Quiet, Stores, Drives}
 use Rattle.bursts.specs.Bus.{masks-after, write-after, bus-after, beat-on, stores-in}
@@ -52,6 +53,9 @@ use Rattle.rules.specs.After.{
   taking,
   own-beat,
   next,
+  with-status,
+  auto-closed,
+  activated,
   bank-after,
   marked,
   each-bank,
@@ -61,7 +65,7 @@ use Rattle.rules.specs.After.{
 use Rattle.rules.proofs.Four.{four}
 use Rattle.device.specs.InPlace.{state-of}
 use Rattle.device.specs.Marks.{stores-byte, bank-of}
-use Rattle.device.proofs.Leaves.{each-four, each-same}
+use Rattle.device.proofs.Leaves.{each-four, each-same, untouched}
 
 -- ── The bus ──
 
@@ -84,6 +88,15 @@ bus-kept k h r n word row u =
     let w = write-kept k h r n word row (u .write) in
     let q = reads-untouched k h r n word row (u .reads) in
     λ i. record { write = w i; reads = q i; masks = masks-after (r .skipped) (r .masks) (u .masks) }
+
+-- the bus as the loop leaves it: moved where the command can end a burst, and its masks set after that
+module _ (k : Command) (r : Record) (n : Clock) (word row : ℕ) (u : Bus) {b : Bus} {m : Masks} (hm : m ≡ masks-after (r .skipped) (r .masks) (u .masks)) where
+  pub bus-ended : b ≡ bus-after k r n word row u → record { write = b .write; reads = b .reads; masks = m } ≡ bus-after k r n word row u
+  unfolding bus-after
+  bus-ended hb = rw (hb, hm)
+
+  pub bus-left : can-end k ≡ false → b ≡ u → record { write = b .write; reads = b .reads; masks = m } ≡ bus-after k r n word row u
+  bus-left h hb = rw (hb, hm) (bus-kept k h r n word row u)
 
 -- ── Start-up ──
 
@@ -124,10 +137,63 @@ module _ (k : Command) (t : SpeedTable) (period end : Ps) (again : Bool) (r : Re
   own-commanded h small l e =
       sym (each-set (bank-after k t period end again r n moment) (r .ba) small (λ i b d. simp (h, ne-eqb _ _ d, and-false)) l e)
 
-pub none-touched : (a b c : Bool) → (a || b) ≡ false → c ≡ false → (a || (b || c)) ≡ false
-none-touched true b c h g = absurd (true≢false h)
-none-touched false true c h g = absurd (true≢false h)
-none-touched false false c h g = g
+  own-active : is k Active ≡ true → (b : Bank) → activated (r .addr) n ≡ bank-after k t period end again r n moment (r .ba) b
+  unfolding bank-after
+  own-active h b = rw (h, eq-eqb (r .ba) (r .ba) refl)
+
+  own-auto : is k Active ≡ false → asks-auto k r ≡ true → (b : Bank)
+      → with-status (auto-closed t period end (b .status)) b ≡ bank-after k t period end again r n moment (r .ba) b
+  unfolding bank-after
+  own-auto h a b = rw (h, a, eq-eqb (r .ba) (r .ba) refl)
+
+-- the banks as the loop leaves them: changed by auto precharge, by ACTIVE, or by the commands below it
+module _ (t : SpeedTable) (period end : Ps) (again : Bool) (r : Record) (n : Clock) (moment : Ps) (l : List Bank) (e : length l ≡ 4) (small : r .ba < 4) where
+  abbrev AutoClosed : Command → List Bank → Type 0
+  AutoClosed k one =
+      one ≡ cond (asks-auto k r) (set l (r .ba) (with-status (auto-closed t period end (bank-at l (r .ba) .status)) (bank-at l (r .ba)))) l
+
+  -- READ and WRITE
+  accessed : (k : Command) → is k Active ≡ false → is k Precharge ≡ false → {one : List Bank} → AutoClosed k one → one ≡ commanded k t period end again r n moment l
+  accessed k h p {one} h1 = go (asks-auto k r) refl
+    where
+      go : (x : Bool) → asks-auto k r ≡ x → one ≡ commanded k t period end again r n moment l
+      go true a =
+          h1
+          ∙ rw a
+          (ap (set l (r .ba)) (own-auto k t period end again r n moment h a (bank-at l (r .ba))) ∙ own-commanded k t period end again r n moment p small l e)
+      go false a = h1 ∙ rw a (sym (untouched k t period end again r n moment (rw (h, a, p)) l))
+
+  pub in-place : (k : Command) {one two three : List Bank} → AutoClosed k one
+      → two ≡ cond (is k Active) (set one (r .ba) (activated (r .addr) n)) one
+      → three ≡ cond (ltb (code-of k) 3) (commanded k t period end again r n moment two) two
+      → three ≡ commanded k t period end again r n moment l
+  in-place Inhibit h1 h2 h3 = h3 ∙ h2 ∙ accessed Inhibit refl refl h1
+  in-place Nop h1 h2 h3 = h3 ∙ h2 ∙ accessed Nop refl refl h1
+  in-place Active h1 h2 h3 =
+      h3
+      ∙ h2
+      ∙ ap (λ (x : List Bank). set x (r .ba) (activated (r .addr) n)) h1
+      ∙ ap (set l (r .ba)) (own-active Active t period end again r n moment refl (bank-at l (r .ba)))
+      ∙ own-commanded Active t period end again r n moment refl small l e
+  in-place Read h1 h2 h3 = h3 ∙ h2 ∙ accessed Read refl refl h1
+  in-place Write h1 h2 h3 = h3 ∙ h2 ∙ accessed Write refl refl h1
+  in-place Terminate h1 h2 h3 = h3 ∙ h2 ∙ accessed Terminate refl refl h1
+  in-place Precharge h1 h2 h3 = h3 ∙ ap (commanded Precharge t period end again r n moment) (h2 ∙ h1)
+  in-place Refresh h1 h2 h3 = h3 ∙ ap (commanded Refresh t period end again r n moment) (h2 ∙ h1)
+  in-place LoadMode h1 h2 h3 = h3 ∙ ap (commanded LoadMode t period end again r n moment) (h2 ∙ h1)
+
+  -- what a command below ACTIVE finds is as it was
+  pub as-it-was : (k : Command) → code-of k < 3 → {one two : List Bank} → AutoClosed k one
+      → two ≡ cond (is k Active) (set one (r .ba) (activated (r .addr) n)) one → two ≡ l
+  as-it-was Inhibit h h1 h2 = absurd (omega arith)
+  as-it-was Nop h h1 h2 = absurd (omega arith)
+  as-it-was Active h h1 h2 = absurd (omega arith)
+  as-it-was Read h h1 h2 = absurd (omega arith)
+  as-it-was Write h h1 h2 = absurd (omega arith)
+  as-it-was Terminate h h1 h2 = absurd (omega arith)
+  as-it-was Precharge h h1 h2 = h2 ∙ h1
+  as-it-was Refresh h h1 h2 = h2 ∙ h1
+  as-it-was LoadMode h h1 h2 = h2 ∙ h1
 
 each-length : (f : ℕ → Bank → Bank) (i : ℕ) (l : List Bank) → length (each-bank f i l) ≡ length l
 each-length f i [] = refl
@@ -141,18 +207,6 @@ commanded-length k t period end again r n moment l = each-length (bank-after k t
 pub mark-length : (w : Beat) (n : Clock) (l : List Bank) → length (mark-banks w n l) ≡ length l
 unfolding mark-banks
 mark-length w n l = each-length (λ i b. marked (stores-in w i) n b) 0 l
-
--- PRECHARGE touches no bank as its own
-pub not-both : (k : Command) (r : Record) → is k Precharge ≡ true → (is k Active || asks-auto k r) ≡ true → ⊥
-not-both Inhibit r h q = true≢false (sym h)
-not-both Nop r h q = true≢false (sym h)
-not-both Active r h q = true≢false (sym h)
-not-both Read r h q = true≢false (sym h)
-not-both Write r h q = true≢false (sym h)
-not-both Terminate r h q = true≢false (sym h)
-not-both Precharge r h q = true≢false (sym q)
-not-both Refresh r h q = true≢false (sym h)
-not-both LoadMode r h q = true≢false (sym h)
 
 -- ── The beat's mark ──
 

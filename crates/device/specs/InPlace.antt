@@ -12,18 +12,17 @@ abbrev pub whole : Core → List Bank → State
 whole c banks = record { core = c; banks = banks }
 
 -- these parts, with period, watched bank and row of c
-abbrev pub state-of : Core → ℕ → Event → StartUp → Bus → List Bank → State
-state-of c number last startup bus banks =
+abbrev pub core-of : Core → ℕ → Event → StartUp → Bus → Core
+core-of c number last startup bus =
     record {
-      core =
-          record {
-            period = c .period;
-            bank = c .bank;
-            row = c .row;
-            number = number;
-            last = last;
-            startup = startup;
-            bus = bus;
-          };
-      banks = banks;
+      period = c .period;
+      bank = c .bank;
+      row = c .row;
+      number = number;
+      last = last;
+      startup = startup;
+      bus = bus;
     }
+
+abbrev pub state-of : Core → ℕ → Event → StartUp → Bus → List Bank → State
+state-of c number last startup bus banks = record { core = core-of c number last startup bus; banks = banks }

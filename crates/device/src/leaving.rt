@@ -155,7 +155,7 @@ fn auto_closed(t: SpeedTable, period: Ps, end: Ps, x: Status) -> Status
     }
 }
 
-fn activated(row: u16, n: Clock) -> Bank
+pub fn activated(row: u16, n: Clock) -> Bank
     ensures { λ r. ⌜ r ≡ activated row n ⌝ }
 {
     let status = Status::Open { row, active: n };
@@ -204,8 +204,7 @@ pub fn bank_after(
         return activated(r.addr, n);
     }
     let status = b.status;
-    let auto = layout::is_access(k) & layout::a10(r.addr);
-    if auto & own {
+    if closes_itself(k, r) & own {
         return with_status(auto_closed(t, period, end, status), b);
     }
     let covered = layout::covers(r.addr, r.ba, i);
@@ -220,8 +219,7 @@ fn touches(k: Command, r: Record) -> bool
     ensures { λ x. ⌜ x ≡ (is k Active || (asks-auto k r || is k Precharge)) ⌝ }
 {
     let code = layout::code_of(k);
-    let auto = layout::is_access(k) & layout::a10(r.addr);
-    (code == 3) | (auto | (code == 2))
+    (code == 3) | (closes_itself(k, r) | (code == 2))
 }
 
 // The banks after the command.
@@ -271,25 +269,23 @@ pub fn bus_moved(k: Command, r: Record, n: Clock, startup: StartUp, own: Bank, b
     databus::bus_after(k, r, n, word, row, bus)
 }
 
-// The record's own bank after the command.
-pub fn bank_moved(
+// The record's own bank after a READ or WRITE with auto precharge.
+pub fn self_closed(
     k: Command,
     t: SpeedTable,
     period: Ps,
     startup: StartUp,
-    r: Record,
     n: Clock,
     own: Bank,
 ) -> Bank
     requires { ⌜ Bounds t × FitPeriod period × FitBank own × (n .0 ≤ clock-max) ⌝ }
-    ensures { λ x. ⌜ x ≡ bank-after k t period (burst-end k t period (word-in (startup .register)) n) (begun startup) r n (at period n) (r .ba) own ⌝ }
+    ensures { λ x. ⌜ x ≡ with-status (auto-closed t period (burst-end k t period (word-in (startup .register)) n) (own .status)) own ⌝ }
 {
     let register = startup.register;
     let word = steps::word_in(register);
-    let now = time::at(period, n);
     let end = closing::burst_end(k, t, period, word, n);
-    let again = steps::begun(startup);
-    bank_after(k, t, period, end, again, r, n, now, r.ba, own)
+    let status = own.status;
+    with_status(auto_closed(t, period, end, status), own)
 }
 
 // The four banks after the command.
@@ -335,11 +331,9 @@ pub fn bank_of(w: Beat) -> u8
     }
 }
 
-// ACTIVE, and a READ or WRITE with auto precharge, touch their own bank alone.
-pub fn touches_own(k: Command, r: Record) -> bool
-    ensures { λ x. ⌜ x ≡ (is k Active || asks-auto k r) ⌝ }
+// A READ or WRITE with auto precharge.
+pub fn closes_itself(k: Command, r: Record) -> bool
+    ensures { λ x. ⌜ x ≡ asks-auto k r ⌝ }
 {
-    let code = layout::code_of(k);
-    let auto = layout::is_access(k) & layout::a10(r.addr);
-    (code == 3) | auto
+    layout::is_access(k) & layout::a10(r.addr)
 }

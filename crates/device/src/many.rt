@@ -2,16 +2,18 @@
 ghost use mathlib.Core.Path.{_≡_};
 ghost use Prim.Native.Nat.{_≤_, _*_, _+_};
 ghost use lib.ListN.{length, set};
-ghost use Rattle.layout.specs.Bytes.{record-of, records-of};
+ghost use Rattle.layout.specs.Bytes.{word-at, record-of, records-of};
 ghost use Rattle.rules.specs.Numbers.{first-broken};
 ghost use Rattle.rules.specs.Parts.{start};
 ghost use Rattle.rules.specs.Fits.{number-max};
 ghost use Rattle.parts.specs.Reach.{Able};
-ghost use Rattle.rules.specs.Report.{beat-word, cells-word, put-line, left, fold, records-rules, records-call};
-ghost use Rattle.device.specs.InPlace.{whole, state-of};
+ghost use Rattle.rules.specs.Report.{beat-word, cells-word, put-line, left, ran, fold, records-rules, records-call};
+ghost use Rattle.device.specs.InPlace.{whole, core-of};
 use crate::Device;
 use crate::leaving;
 use crate::single;
+use asking::commands;
+use asking::every;
 use bursts::Beat;
 use bursts::Bus;
 use bursts::Cells;
@@ -74,29 +76,21 @@ fn report(beats: &mut [u64], k: u64, beat: Beat, n: Clock)
     put(beats, at + 1, n.0);
 }
 
-// Record r of the 16 bytes of `part`.
-fn record_in(part: &[u8]) -> Record
-    requires { ⌜ length (now part) ≡ 16 ⌝ }
+// The record of these 16 bytes, whose first word has been read.
+fn record_in(first: u64, part: &[u8]) -> Record
+    requires { ⌜ (length (now part) ≡ 16) × (first ≡ word-at (now part) 0) ⌝ }
     ensures { λ x. ⌜ x ≡ record-of (now (part .entry)) ⌝ }
 {
-    let first = layout::first_word(part);
     let second = layout::first_word(&part[8..16]);
     layout::record_from(first, second)
 }
 
-// The state whose parts these are; period, watched bank and row stay as they are in c.
-fn state_of(
-    c: Core,
-    number: u64,
-    last: Event,
-    startup: StartUp,
-    bus: Bus,
-    banks: [Bank; 4],
-) -> State
-    ensures { λ x. ⌜ x ≡ state-of c number last startup bus banks ⌝ }
+// All but the banks; period, watched bank and row stay as they are in c.
+fn core_of(c: Core, number: u64, last: Event, startup: StartUp, bus: Bus) -> Core
+    ensures { λ x. ⌜ x ≡ core-of c number last startup bus ⌝ }
 {
     let period = c.period;
-    let core = Core {
+    Core {
         period,
         bank: c.bank,
         row: c.row,
@@ -104,12 +98,19 @@ fn state_of(
         last,
         startup,
         bus,
-    };
-    State { core, banks }
+    }
+}
+
+fn ended(verdict: Verdict, reported: u64) -> Ran
+    ensures { λ x. ⌜ x ≡ ran verdict reported ⌝ }
+{
+    Ran { verdict, reported }
 }
 
 // `count` records from a state, each asked and taken in its turn, up to the first that is refused. The state is held in its
-// parts and changed in place: most records leave most of it, and to build it anew for each cost more than judging it.
+// parts and changed in place: most records leave most of it, and to build it anew for each cost more than judging it. For the
+// same reason a command is asked here, and not behind one call that would be given the whole state; and the first word of the
+// next record is read at the end of a turn, where it is one load.
 fn fold(
     u: Setup,
     core: Core,
@@ -129,37 +130,53 @@ fn fold(
     let mut startup = core.startup;
     let mut bus = core.bus;
     let mut all = banks;
+    let mut first = layout::first_word(bytes);
     let mut j = 0;
     while j < count {
         let at = 16 * j;
-        let r = record_in(&bytes[at..at + 16]);
-        let st = state_of(core, number, last, startup, bus, all);
-        let v = asking::ask(u, st, r);
-        let Verdict::Taken = v else {
-            return Ran {
-                verdict: v,
-                reported: number,
-            };
-        };
-        let held = bus.masks;
+        let r = record_in(first, &bytes[at..at + 16]);
         let n = time::clock_of(last, r.skipped);
+        let now = time::at(period, n);
+        let refreshes = startup.refreshes;
+        let v = every::ask_every(t, period, refreshes, all, r, n, now);
+        let Verdict::Taken = v else {
+            return ended(v, number);
+        };
         let k = layout::command_of(r.code);
+        let code = layout::code_of(k);
+        let held = bus.masks;
+        if code < 4 {
+            let own = all[r.ba as usize];
+            let c = core_of(core, number, last, startup, bus);
+            let v = commands::ask_banks(k, t, c, own, all, r, n, now);
+            let Verdict::Taken = v else {
+                return ended(v, number);
+            };
+        }
+        if (3 < code) & (code < 7) {
+            let own = all[r.ba as usize];
+            let c = core_of(core, number, last, startup, bus);
+            let v = commands::ask_burst(k, t, c, own, all, r, n, now);
+            let Verdict::Taken = v else {
+                return ended(v, number);
+            };
+        }
         if reads::can_end(k) {
             let own = all[r.ba as usize];
             bus = leaving::bus_moved(k, r, n, startup, own, bus);
-        } else {
-            bus.masks = held.after(r.skipped, r.masks);
         }
-        if layout::code_of(k) == 2 {
-            all = leaving::banks_moved(k, t, period, startup, r, n, all);
-        }
-        if leaving::touches_own(k, r) {
+        if leaving::closes_itself(k, r) {
             let own = all[r.ba as usize];
-            all[r.ba as usize] = leaving::bank_moved(k, t, period, startup, r, n, own);
+            all[r.ba as usize] = leaving::self_closed(k, t, period, startup, n, own);
         }
-        if layout::code_of(k) < 3 {
+        if code == 3 {
+            all[r.ba as usize] = leaving::activated(r.addr, n);
+        }
+        if code < 3 {
+            all = leaving::banks_moved(k, t, period, startup, r, n, all);
             startup = leaving::startup_after(k, r, n, startup);
         }
+        bus.masks = held.after(r.skipped, r.masks);
         let write = bus.write;
         let driven = bus.reads;
         let beat = databus::beat_on(last, held, write, driven, r.masks, n);
@@ -173,12 +190,10 @@ fn fold(
         last = Event::On(n);
         number += 1;
         j += 1;
+        let next = 16 * j;
+        first = layout::first_word(&bytes[next..]);
     }
-    let verdict = Verdict::Taken;
-    Ran {
-        verdict,
-        reported: number,
-    }
+    ended(Verdict::Taken, number)
 }
 
 // What is tried before the first record: whole records, then 3, 6, 7, 25, and room for their numbers.
@@ -242,10 +257,7 @@ impl Device {
         let count = bytes.len() / 16;
         let v = records_verdict(setup, s, bytes.len(), page.len());
         let Verdict::Taken = v else {
-            return Ran {
-                verdict: v,
-                reported: 0,
-            };
+            return ended(v, 0);
         };
         let core = s.core;
         let banks = s.banks;

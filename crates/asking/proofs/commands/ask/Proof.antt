@@ -8,11 +8,11 @@ use Rattle.asking.proofs.commands.ask.Tie as tie
 use Rattle.asking.proofs.commands.ask.Reads as reads
 use Rattle.asking.proofs.commands.ask.Lts as lts
 use Rattle.asking.proofs.commands.ask_command.Reads as ask-command-reads
-use Rattle.asking.proofs.verdicts.every_verdict.Reads as every-verdict-reads
+use Rattle.asking.proofs.every.ask_every.Reads as ask-every-reads
 use Rattle.layout.proofs.command_of.Reads as command-of-reads
 
-every-verdict-requires : tie.Need-every-verdict-requires
-every-verdict-requires c κs = search needs
+ask-every-requires : tie.Need-ask-every-requires
+ask-every-requires c κs = search needs
 
 enum-told : tie.Need-enum-told
 enum-told c = search needs
@@ -22,23 +22,23 @@ enum-told-2 c = search needs
 
 returns : tie.Need-returns
 unfolding rules
-returns c = rw (first-join, ← c .before .before .every-verdict .ensures, c .enum-told2 .given .1)
+returns c = rw (first-join, ← c .before .before .ask-every .ensures, c .enum-told2 .given .1)
 
 command-of-requires : tie.Need-command-of-requires
 command-of-requires c κs = search needs
 
 ask-command-requires : tie.Need-ask-command-requires
-ask-command-requires c κs = (c .before .before .before .before .before .pre, every-clock _ _ _ _ _ _ _ (sym (c .before .before .before .every-verdict .ensures) ∙ c .before .enum-told .given .1))
+ask-command-requires c κs = (c .before .before .before .before .before .pre, every-clock _ _ _ _ _ _ _ (sym (c .before .before .before .ask-every .ensures) ∙ c .before .enum-told .given .1))
 
 returns-2 : tie.Need-returns-2
 unfolding rules
-returns-2 c = rw (c .ask-command .ensures, first-join, ← c .before .before .before .before .every-verdict .ensures, c .before .before .enum-told .given .1, c .before .command-of .ensures)
+returns-2 c = rw (c .ask-command .ensures, first-join, ← c .before .before .before .before .ask-every .ensures, c .before .before .enum-told .given .1, c .before .command-of .ensures)
 
 pub ask-spec : {M : Type 1} → statement M
 ask-spec =
     tie.close
     (tie.spec
-    every-verdict-requires
+    ask-every-requires
     enum-told
     enum-told-2
     returns

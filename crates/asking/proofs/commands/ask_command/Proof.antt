@@ -1,42 +1,61 @@
+use Rattle.layout.specs.Commands.{code-of}
+use borrow.Author.Tests.{lt-ltb, le-ltb}
+use native.Mathlib.Omega.{arith}
 use borrow.Author.Needs.{needs}
 use Rattle.asking.proofs.commands.ask_command.Statement.{statement}
 use Rattle.asking.proofs.commands.ask_command.Tie as tie
 use Rattle.asking.proofs.commands.ask_command.Reads as reads
 use Rattle.asking.proofs.commands.ask_command.Lts as lts
-use Rattle.asking.proofs.commands.ask_begun.Reads as ask-begun-reads
-use Rattle.asking.proofs.commands.ask_first.Reads as ask-first-reads
-use Rattle.parts.proofs.steps.begun.Reads as begun-reads
-use Rattle.layout.proofs.is_executable.Reads as is-executable-reads
+use Rattle.asking.proofs.commands.ask_banks.Reads as ask-banks-reads
+use Rattle.asking.proofs.commands.ask_burst.Reads as ask-burst-reads
+use Rattle.layout.proofs.code_of.Reads as code-of-reads
 
-is-executable-requires : tie.Need-is-executable-requires
-is-executable-requires c κs = search needs
+-- src/commands.rt:213:19
+cast-own : tie.Need-cast-own
+cast-own c = search needs
 
-begun-requires : tie.Need-begun-requires
-begun-requires c κs = search needs
+-- src/commands.rt:213:15
+mul-own : tie.Need-mul-own
+mul-own c = search needs
 
-ask-begun-requires : tie.Need-ask-begun-requires
-ask-begun-requires c κs = search needs
+-- src/commands.rt:213:15
+array-copy-out-own : tie.Need-array-copy-out-own
+array-copy-out-own c = search needs
 
+-- src/commands.rt:214:9
+code-of-requires : tie.Need-code-of-requires
+code-of-requires c κs = search needs
+
+-- src/commands.rt:216:9
+ask-banks-requires : tie.Need-ask-banks-requires
+ask-banks-requires c κs = search needs
+
+-- src/commands.rt:216:9
 returns : tie.Need-returns
-returns c = search needs
+returns c = rw (lt-ltb (code-of (c .before .before .before .before .before .args .k)) 7 (omega (arith, c .before .before .code-of .ensures, c .before .if1 .taken))) (c .ask-banks .ensures)
 
-ask-first-requires : tie.Need-ask-first-requires
-ask-first-requires c κs = search needs
+-- src/commands.rt:219:9
+ask-burst-requires : tie.Need-ask-burst-requires
+ask-burst-requires c κs = search needs
 
+-- src/commands.rt:219:9
 returns-2 : tie.Need-returns-2
-returns-2 c = rw (c .ask-first .ensures, ← c .before .before .before .before .before .is-executable .ensures, c .before .before .before .before .if1 .taken)
+returns-2 c = rw (lt-ltb (code-of (c .before .before .before .before .before .before .args .k)) 7 (omega (arith, c .before .before .before .code-of .ensures, c .before .if2 .taken))) (c .ask-burst .ensures)
 
+-- src/commands.rt:201:1
 returns-3 : tie.Need-returns-3
-returns-3 c = rw (← c .before .is-executable .ensures, c .if1 .left)
+returns-3 c = rw (le-ltb (code-of (c .before .before .before .before .before .args .k)) 7 (omega (arith, c .before .before .code-of .ensures, c .if2 .left)))
 
 pub ask-command-spec : {M : Type 1} → statement M
 ask-command-spec =
     tie.close
     (tie.spec
-    is-executable-requires
-    begun-requires
-    ask-begun-requires
+    cast-own
+    mul-own
+    array-copy-out-own
+    code-of-requires
+    ask-banks-requires
     returns
-    ask-first-requires
+    ask-burst-requires
     returns-2
     returns-3)

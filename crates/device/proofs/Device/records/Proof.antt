@@ -6,6 +6,7 @@ use Rattle.device.proofs.Device.records.Statement.{statement}
 use Rattle.device.proofs.Device.records.Tie as tie
 use Rattle.device.proofs.Device.records.Reads as reads
 use Rattle.device.proofs.Device.records.Lts as lts
+use Rattle.device.proofs.many.ended.Reads as ended-reads
 use Rattle.device.proofs.many.fold.Reads as fold-reads
 use Rattle.device.proofs.many.records_verdict.Reads as records-verdict-reads
 
@@ -18,8 +19,11 @@ enum-told c = search needs
 enum-told-2 : tie.Need-enum-told-2
 enum-told-2 c = search needs
 
+ended-requires : tie.Need-ended-requires
+ended-requires c κs = search needs
+
 returns : tie.Need-returns
-returns c = rw (c .enum-told2 .given .1) (sym (records-refused _ _ _ _ _ _ _ (sym (c .before .before .records-verdict .ensures) ∙ c .enum-told2 .given .1)))
+returns c = rw (c .ended .ensures, c .before .enum-told2 .given .1) (sym (records-refused _ _ _ _ _ _ _ (sym (c .before .before .before .records-verdict .ensures) ∙ c .before .enum-told2 .given .1)))
 
 fold-requires : tie.Need-fold-requires
 fold-requires c κs = let e = entry-of _ _ _ _ (sym (c .before .before .before .before .before .before .records-verdict .ensures) ∙ c .before .before .before .before .enum-told .given .1) in (omega (arith, e .whole), e .able)
@@ -40,6 +44,7 @@ records-spec =
     records-verdict-requires
     enum-told
     enum-told-2
+    ended-requires
     returns
     fold-requires
     same-length

@@ -3,21 +3,20 @@ use Rattle.device.proofs.leaving.touches.Statement.{statement}
 use Rattle.device.proofs.leaving.touches.Tie as tie
 use Rattle.device.proofs.leaving.touches.Reads as reads
 use Rattle.device.proofs.leaving.touches.Lts as lts
-use Rattle.layout.proofs.a10.Reads as a10-reads
+use Rattle.device.proofs.leaving.closes_itself.Reads as closes-itself-reads
 use Rattle.layout.proofs.code_of.Reads as code-of-reads
-use Rattle.layout.proofs.is_access.Reads as is-access-reads
 
+-- src/leaving.rt:221:9
 code-of-requires : tie.Need-code-of-requires
 code-of-requires c κs = search needs
 
-is-access-requires : tie.Need-is-access-requires
-is-access-requires c κs = search needs
+-- src/leaving.rt:222:20
+closes-itself-requires : tie.Need-closes-itself-requires
+closes-itself-requires c κs = search needs
 
-a10-requires : tie.Need-a10-requires
-a10-requires c κs = search needs
-
+-- src/leaving.rt:218:1
 returns : tie.Need-returns
-returns c = rw (c .a10 .ensures, c .before .is-access .ensures, c .before .before .code-of .ensures)
+returns c = rw (c .closes-itself .ensures, c .before .code-of .ensures)
 
 pub touches-spec : {M : Type 1} → statement M
-touches-spec = tie.close (tie.spec code-of-requires is-access-requires a10-requires returns)
+touches-spec = tie.close (tie.spec code-of-requires closes-itself-requires returns)

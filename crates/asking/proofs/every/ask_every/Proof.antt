@@ -2,10 +2,10 @@ use Rattle.rules.proofs.Admitted.{counted-fits}
 use Rattle.rules.specs.Rules.{every-rules}
 use borrow.Author.Tests.{eq-eqb, ne-eqb, lt-leb, le-leb}
 use borrow.Author.Needs.{needs}
-use Rattle.asking.proofs.verdicts.every_verdict.Statement.{statement}
-use Rattle.asking.proofs.verdicts.every_verdict.Tie as tie
-use Rattle.asking.proofs.verdicts.every_verdict.Reads as reads
-use Rattle.asking.proofs.verdicts.every_verdict.Lts as lts
+use Rattle.asking.proofs.every.ask_every.Statement.{statement}
+use Rattle.asking.proofs.every.ask_every.Tie as tie
+use Rattle.asking.proofs.every.ask_every.Reads as reads
+use Rattle.asking.proofs.every.ask_every.Lts as lts
 use Rattle.asking.proofs.maxima.all_within.Reads as all-within-reads
 use Rattle.asking.proofs.maxima.within.Reads as within-reads
 use Rattle.rules.proofs.Verdict.refused.Reads as refused-reads
@@ -59,8 +59,8 @@ returns-6 : tie.Need-returns-6
 unfolding every-rules
 returns-6 c = rw (c .refused5 .ensures, eq-eqb _ _ (c .before .before .before .before .before .before .before .before .if1 .left), le-leb _ _ (c .before .before .before .before .before .before .if2 .left), eq-eqb _ _ (c .before .before .before .before .if3 .left), ← c .before .before .before .counted-refresh .ensures, ← c .before .before .within .ensures, c .before .if4 .left)
 
-pub every-verdict-spec : {M : Type 1} → statement M
-every-verdict-spec =
+pub ask-every-spec : {M : Type 1} → statement M
+ask-every-spec =
     tie.close
     (tie.spec
     refused-requires
