@@ -223,10 +223,13 @@ asked-at c =
 
 -- ── The parts, where the ways through a turn meet ──
 
-bus-at : (c : tie.After-after Inv-loop μ-loop) → record { write = c .before .before .before .before .before .if3 .bus .write; reads = c .before .before .before .before .before .if3 .bus .reads; masks = c .after .result } ≡ moved-bus (c .before .before .before .before .before .before .before .before .before)
+abbrev BusAt : tie.After-after Inv-loop μ-loop → Type 0
+BusAt c = record { write = c .before .before .before .before .before .if3 .bus .write; reads = c .before .before .before .before .before .if3 .bus .reads; masks = c .after .result } ≡ moved-bus (c .before .before .before .before .before .before .before .before .before)
+
+bus-at : (c : tie.After-after Inv-loop μ-loop) → BusAt c
 bus-at c =
     let a = c .before .before .before .before .before .before .before .before .before in
-    ⊎-elim (λ w. bus-ended (command-at a) (rec a) (clock-at a) _ _ (a .before .before .before .before .before .before .before .before .before .before .before .loop .bus) (c .after .ensures) (w .4 ∙ w .3 .ensures))
+    ⊎-elim {C = BusAt c} (λ w. bus-ended (command-at a) (rec a) (clock-at a) _ _ (a .before .before .before .before .before .before .before .before .before .before .before .loop .bus) (c .after .ensures) (w .4 ∙ w .3 .ensures))
     (λ w. bus-left (command-at a) (rec a) (clock-at a) _ _ (a .before .before .before .before .before .before .before .before .before .before .before .loop .bus) (c .after .ensures) (sym (c .before .before .before .before .before .before .can-end .ensures) ∙ w .0 .left) (w .1))
     (c .before .before .before .before .before .if3 .came)
 
@@ -269,10 +272,13 @@ banks-at c =
     (λ w. refuse _ _ (le-ltb (code-of (command-at a)) 3 (omega (arith, code-is a, w .0 .left))) (w .2))
     (c .if6 .came))
 
-startup-at : (c : tie.Joined6 Inv-loop μ-loop) → c .if6 .startup ≡ startup-after (command-at (c .before .before .before .before .before .before .before .before)) (rec (c .before .before .before .before .before .before .before .before)) (clock-at (c .before .before .before .before .before .before .before .before)) (c .before .before .before .before .before .before .before .before .before .before .before .before .before .before .before .before .before .before .before .loop .startup)
+abbrev StartUpAt : tie.Joined6 Inv-loop μ-loop → Type 0
+StartUpAt c = c .if6 .startup ≡ startup-after (command-at (c .before .before .before .before .before .before .before .before)) (rec (c .before .before .before .before .before .before .before .before)) (clock-at (c .before .before .before .before .before .before .before .before)) (c .before .before .before .before .before .before .before .before .before .before .before .before .before .before .before .before .before .before .before .loop .startup)
+
+startup-at : (c : tie.Joined6 Inv-loop μ-loop) → StartUpAt c
 startup-at c =
     let a = c .before .before .before .before .before .before .before .before in
-    ⊎-elim (λ w. w .3 ∙ w .2 .ensures)
+    ⊎-elim {C = StartUpAt c} (λ w. w .3 ∙ w .2 .ensures)
     (λ w. w .1 ∙ startup-kept (command-at a) (omega (arith, code-is a, w .0 .left)) (rec a) (clock-at a) (c .before .before .before .before .before .before .before .before .before .before .before .before .before .before .before .before .before .before .before .loop .startup))
     (c .if6 .came)
 
