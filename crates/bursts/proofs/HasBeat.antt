@@ -1,13 +1,13 @@
 -- When a burst has a beat (01, Beats), with clocks compared by subtraction as the code does it. Assumes nothing.
 use Prim.Native.Nat.{ℕ, suc, _+_, _-_, _≤_, _<_}
 use native.Mathlib.Omega.{arith}
-use mathlib.Core.Path.{_≡_}
+use mathlib.Core.Path.{_≡_, refl}
 use mathlib.Core.Bool.{Bool, true, false, _&&_, _||_, and-false}
 use lib.Dec.{leb, ltb}
 use borrow.Author.Tests.{le-leb, lt-leb, leb-true}
 use Rattle.units.specs.declared.Clock.{Clock}
 use Rattle.units.specs.Time.{clock}
-use Rattle.mode.specs.Word.{length-of, full-page, latency}
+use Rattle.mode.specs.Word.{length-of, full-page, latency, write-length, write-endless}
 use Rattle.units.proofs.Both.{both}
 use Rattle.units.proofs.Subtraction.{leb-alike}
 use Rattle.bursts.specs.declared.Burst.{Burst}
@@ -18,10 +18,24 @@ use Rattle.bursts.specs.Burst.{before-cut, has-beat, write-beat, reads-o
 ltb-since : (n s k : ℕ) → s ≤ n → ltb n (s + k) ≡ ltb (n - s) k
 ltb-since n s k h = leb-alike (suc n) (s + k) (suc (n - s)) k (λ p. omega arith) (λ p. omega arith)
 
+-- two tests of four that do not both hold
+lost : (live since uncut more : Bool) → (live && uncut) ≡ false → (live && since && uncut && more) ≡ false
+lost false since uncut more h = refl
+lost true since uncut more h = rw (h, and-false)
+
 module _ (b : Burst) (length : ℕ) (endless : Bool) (n : Clock) where
   pub none-where-no-burst : b .live ≡ false → has-beat b length endless n ≡ false
   unfolding has-beat
   none-where-no-burst h = rw h
+
+  -- a beat that is cut is none, whatever else holds
+  pub none-when-cut : before-cut n (b .cut) ≡ false → has-beat b length endless n ≡ false
+  unfolding has-beat
+  none-when-cut h = rw (h, and-false)
+
+  pub none-unless-live-and-uncut : (b .live && before-cut n (b .cut)) ≡ false → has-beat b length endless n ≡ false
+  unfolding has-beat
+  none-unless-live-and-uncut = lost (b .live) (leb (b .start .0) (n .0)) (before-cut n (b .cut)) (endless || ltb (n .0) (b .start .0 + length))
 
   pub none-ahead : n .0 < b .start .0 → has-beat b length endless n ≡ false
   unfolding has-beat
@@ -42,14 +56,19 @@ module _ (b : Burst) (length : ℕ) (endless : Bool) (n : Clock) where
       (both (b .live && leb (b .start .0) (n .0) && before-cut n (b .cut)) (endless || ltb (n .0) (b .start .0 + length)) h .0) .0) .1)
 
 module _ (b : Burst) (masks : ℕ) (n : Clock) where
-  pub quiet-write : b .live ≡ false → Quiet ≡ write-beat b masks n
-  unfolding write-beat has-beat
-  quiet-write h = rw h
+  pub quiet-write : (b .live && before-cut n (b .cut)) ≡ false → Quiet ≡ write-beat b masks n
+  unfolding write-beat
+  quiet-write h = rw (none-unless-live-and-uncut b (write-length (b .word)) (write-endless (b .word)) n h)
 
 module _ (b : Burst) (n : Clock) where
   pub reads-none : b .live ≡ false → false ≡ reads-on b n
   unfolding has-beat
   reads-none h = rw (h, and-false)
+
+  -- nor where the clock of its fetching was cut off
+  pub reads-none-when-cut : before-cut (clock (n .0 - latency (b .word))) (b .cut) ≡ false → false ≡ reads-on b n
+  reads-none-when-cut h =
+      rw (none-when-cut b (length-of (b .word)) (full-page (b .word)) (clock (n .0 - latency (b .word))) h, and-false)
 
   -- a beat on the bus is one that was fetched CL clocks before, not before the registration
   pub fetched-late : reads-on b n ≡ true → latency (b .word) ≤ n .0

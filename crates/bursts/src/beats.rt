@@ -75,11 +75,13 @@ impl Burst {
         kept & (endless | (n.0 - start < length as u64))
     }
 
-    // "WRITE at w: beat i on w + i", stored on the lanes with DQMB LOW on that clock. With M9 = 1 there is one beat.
+    // "WRITE at w: beat i on w + i", stored on the lanes with DQMB LOW on that clock. With M9 = 1 there is one beat. The
+    // cut is looked at first: most bursts are cut long before, and then no length is worked out.
     pub fn write_beat(self, masks: u8, n: Clock) -> Beat
         ensures { λ r. ⌜ r ≡ write-beat self masks n ⌝ }
     {
-        if !self.live {
+        let cut = self.cut;
+        if !(self.live & before_cut(n, cut)) {
             return Beat::Quiet;
         }
         let length = write_length(self.word);
@@ -92,7 +94,8 @@ impl Burst {
         Beat::Quiet
     }
 
-    // "READ at r: beat i on r + CL + i": on clock n runs the beat that was fetched CL clocks before.
+    // "READ at r: beat i on r + CL + i": on clock n runs the beat that was fetched CL clocks before. The cut first, as
+    // above.
     pub fn reads_on(self, n: Clock) -> bool
         ensures { λ r. ⌜ r ≡ reads-on self n ⌝ }
     {
@@ -103,9 +106,14 @@ impl Burst {
         if n.0 < cl {
             return false;
         }
+        let cut = self.cut;
+        let m = Clock(n.0 - cl);
+        if !before_cut(m, cut) {
+            return false;
+        }
         let length = length_of(self.word);
         let endless = full_page(self.word);
-        self.has_beat(length, endless, Clock(n.0 - cl))
+        self.has_beat(length, endless, m)
     }
 
     // The beat on clock n. `masks` are those of two clocks before n.

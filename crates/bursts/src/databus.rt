@@ -82,12 +82,18 @@ pub fn beat_on(
     or_else(stored, driven)
 }
 
-// Number 19: no auto precharge burst is unfinished on clock n. A WRITE with M9 = 1 has length 1.
+// Number 19: no auto precharge burst is unfinished on clock n. A WRITE with M9 = 1 has length 1; the length
+// is worked out only where the WRITE asks auto precharge.
 pub fn bursts_finished(write: Burst, reads: [Burst; 4], n: Clock) -> bool
     ensures { λ r. ⌜ r ≡ bursts-finished write reads n ⌝ }
 {
-    let length = write_length(write.word);
-    write.finished(length, n) & reads_finished(n, reads)
+    if write.live & write.auto {
+        let length = write_length(write.word);
+        if !write.finished(length, n) {
+            return false;
+        }
+    }
+    reads_finished(n, reads)
 }
 
 // Some lane is driven on clock n, if no WRITE stands there.

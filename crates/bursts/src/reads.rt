@@ -105,10 +105,13 @@ pub fn reads_after(
 
 impl Burst {
     // A READ's burst asks no auto precharge, or is finished on clock n. Number 19 ends at r + length, though beats run on
-    // for CL clocks.
+    // for CL clocks. The length is worked out only where it is asked for.
     pub fn read_finished(self, n: Clock) -> bool
         ensures { λ r. ⌜ r ≡ finished (length-of (self .word)) n self ⌝ }
     {
+        if !(self.live & self.auto) {
+            return true;
+        }
         self.finished(length_of(self.word), n)
     }
 }

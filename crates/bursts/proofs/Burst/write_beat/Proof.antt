@@ -1,14 +1,17 @@
 -- `bursts::Burst::write_beat` meets its contract: the beat of the clocks since its registration. Assumes nothing.
 use mathlib.Core.Path.{sym, _∙_}
-use borrow.Author.Needs.{needs}
 use borrow.Author.Tests.{not-true}
+use borrow.Author.Needs.{needs}
 use Rattle.bursts.specs.Burst.{write-beat}
 use Rattle.bursts.proofs.HasBeat.{beat-is-not-ahead, quiet-write}
 use Rattle.bursts.proofs.Burst.write_beat.Statement.{statement}
 use Rattle.bursts.proofs.Burst.write_beat.Tie as tie
 
+before-cut-requires : tie.Need-before-cut-requires
+before-cut-requires c κs = search needs
+
 returns : tie.Need-returns
-returns c = quiet-write _ _ _ (not-true _ (c .if1 .taken))
+returns c = quiet-write _ _ _ (rw (← c .before .before .before-cut .ensures) (not-true _ (c .if1 .taken)))
 
 write-length-requires : tie.Need-write-length-requires
 write-length-requires c κs = search needs
@@ -37,6 +40,7 @@ pub write-beat-spec : {M : Type 1} → statement M
 write-beat-spec =
     tie.close
     (tie.spec
+    before-cut-requires
     returns
     write-length-requires
     write-endless-requires
