@@ -1,10 +1,9 @@
 -- Recursions on the four READ bursts, as the code writes them out. Assumes nothing.
-use Prim.Native.Nat.{ℕ, _-_}
+use Prim.Native.Nat.{ℕ}
 use native.Mathlib.Omega.{arith}
 use mathlib.Core.Path.{_≡_, refl, ap, sym, _∙_}
-use mathlib.Core.Bool.{Bool, true, false, not, _&&_, _||_, cond, and-true, or-false}
+use mathlib.Core.Bool.{true, false, _&&_, _||_, and-true, or-false}
 use mathlib.Core.List.{List, [], _∷_}
-use lib.Dec.{eqb}
 use lib.ListN.{length, getD, take}
 use Rattle.units.specs.declared.Clock.{Clock}
 use Rattle.units.specs.declared.Event.the-variants.{Never}
@@ -12,12 +11,12 @@ use Rattle.units.specs.Time.{clock}
 use Rattle.layout.specs.declared.Command.{Command}
 use Rattle.layout.specs.declared.Command.the-variants.{Read, Write}
 use Rattle.layout.specs.Commands.{is}
-use Rattle.mode.specs.Word.{length-of, latency}
+use Rattle.mode.specs.Word.{length-of}
 use Rattle.bursts.specs.declared.Burst.{Burst}
 use Rattle.bursts.specs.declared.Beat.{Beat}
 use Rattle.bursts.specs.declared.Beat.the-variants.{Quiet, Stores, Drives}
-use Rattle.bursts.specs.Burst.{cut-by, lanes-low, cells, reads-on, read-beat, finished}
-use Rattle.bursts.specs.Bus.{drives-lane, or-else, no-reads, reads-beat, cut-each, reads-from, reads-finished}
+use Rattle.bursts.specs.Burst.{cut-by, reads-on, read-beat, finished}
+use Rattle.bursts.specs.Bus.{or-else, no-reads, reads-beat, reads-run, cut-each, reads-from, reads-finished}
 
 -- what an array of bursts is taken to hold past its end
 abbrev pub past : Burst
@@ -49,6 +48,11 @@ module _ (bs : List Burst) (h : length bs ≡ 4) where
       (or-else (read-beat (burst bs 1) masks n)
       (or-else (read-beat (burst bs 2) masks n) (read-beat (burst bs 3) masks n)))
   reads-beat-four masks n = ap (λ (l : List Burst). reads-beat l masks n) (four bs h) ∙ rw or-else-quiet
+
+  pub reads-run-four : (n : Clock)
+      → reads-run bs n
+      ≡ (reads-on (burst bs 0) n || (reads-on (burst bs 1) n || (reads-on (burst bs 2) n || reads-on (burst bs 3) n)))
+  reads-run-four n = ap (λ (l : List Burst). reads-run l n) (four bs h) ∙ rw or-false
 
   pub cut-each-four : (k : Command) (addr ba : ℕ) (n : Clock)
       → cut-each k addr ba n bs
@@ -83,30 +87,3 @@ module _ (k : Command) (new : Burst) (bs : List Burst) where
   pub kept-otherwise : is k Write ≡ false → is k Read ≡ false → bs ≡ reads-from k new bs
   unfolding reads-from
   kept-otherwise w r = rw (w, r)
-
--- ── A lane is driven ──
-
--- some READ has a beat on clock n
-abbrev pub any-on : List Burst → Clock → Bool
-any-on [] n = false
-any-on (b ∷ bs) n = reads-on b n || any-on bs n
-
--- all READs of a clock have the same masks: a lane is driven where some beat runs and some lane is LOW
-pub drives-any : (bs : List Burst) (masks : ℕ) (n : Clock) → drives-lane (reads-beat bs masks n) ≡ (any-on bs n && not (eqb (lanes-low masks) 0))
-unfolding read-beat
-drives-any [] masks n = refl
-drives-any (b ∷ bs) masks n = go (reads-on b n) (drives-any bs masks n)
-  where
-    go : (x : Bool) → drives-lane (reads-beat bs masks n) ≡ (any-on bs n && not (eqb (lanes-low masks) 0))
-        → drives-lane (or-else (cond x (Drives (cells b (n .0 - latency (b .word) - b .start .0) masks)) Quiet) (reads-beat bs masks n))
-        ≡ ((x || any-on bs n) && not (eqb (lanes-low masks) 0))
-    go true h = refl
-    go false h = h
-
-pub drives-four : (bs : List Burst) → length bs ≡ 4 → (masks : ℕ) (n : Clock)
-    → drives-lane (reads-beat bs masks n)
-    ≡ ((reads-on (burst bs 0) n || (reads-on (burst bs 1) n || (reads-on (burst bs 2) n || reads-on (burst bs 3) n))) && not (eqb (lanes-low masks) 0))
-drives-four bs h masks n =
-    drives-any bs masks n
-    ∙ ap (λ (l : List Burst). any-on l n && not (eqb (lanes-low masks) 0)) (four bs h)
-    ∙ ap (λ (x : Bool). (reads-on (burst bs 0) n || (reads-on (burst bs 1) n || (reads-on (burst bs 2) n || x))) && not (eqb (lanes-low masks) 0)) (or-false (reads-on (burst bs 3) n))

@@ -18,11 +18,6 @@ use Rattle.bursts.specs.Burst.{before-cut, has-beat, write-beat, reads-o
 ltb-since : (n s k : ℕ) → s ≤ n → ltb n (s + k) ≡ ltb (n - s) k
 ltb-since n s k h = leb-alike (suc n) (s + k) (suc (n - s)) k (λ p. omega arith) (λ p. omega arith)
 
--- two tests of four that do not both hold
-lost : (live since uncut more : Bool) → (live && uncut) ≡ false → (live && since && uncut && more) ≡ false
-lost false since uncut more h = refl
-lost true since uncut more h = rw (h, and-false)
-
 module _ (b : Burst) (length : ℕ) (endless : Bool) (n : Clock) where
   pub none-where-no-burst : b .live ≡ false → has-beat b length endless n ≡ false
   unfolding has-beat
@@ -34,8 +29,11 @@ module _ (b : Burst) (length : ℕ) (endless : Bool) (n : Clock) where
   none-when-cut h = rw (h, and-false)
 
   pub none-unless-live-and-uncut : (b .live && before-cut n (b .cut)) ≡ false → has-beat b length endless n ≡ false
-  unfolding has-beat
-  none-unless-live-and-uncut = lost (b .live) (leb (b .start .0) (n .0)) (before-cut n (b .cut)) (endless || ltb (n .0) (b .start .0 + length))
+  none-unless-live-and-uncut h = go (b .live) refl h
+    where
+      go : (live : Bool) → b .live ≡ live → (live && before-cut n (b .cut)) ≡ false → has-beat b length endless n ≡ false
+      go false e i = none-where-no-burst e
+      go true e i = none-when-cut i
 
   pub none-ahead : n .0 < b .start .0 → has-beat b length endless n ≡ false
   unfolding has-beat

@@ -2,4 +2,5 @@ pub mod AutoPrecharge
 pub mod Four
 pub mod HasBeat
 pub mod HeldMasks
+pub mod Running
 pub mod Untouched

@@ -1,6 +1,6 @@
 -- The data bus: all bursts and the masks, the beat on a clock, numbers 19 and 20 (01, Beats). Definitions only.
 use Prim.Native.Nat.{ℕ, _+_, _-_}
-use mathlib.Core.Bool.{Bool, true, false, not, _&&_, cond}
+use mathlib.Core.Bool.{Bool, true, false, not, _&&_, _||_, cond}
 use mathlib.Core.List.{List, [], _∷_}
 use lib.Dec.{leb, eqb}
 use lib.ListN.{getD, take}
@@ -19,7 +19,7 @@ use Rattle.bursts.specs.declared.Bus.{Bus}
 use Rattle.bursts.specs.declared.Cells.{Cells}
 use Rattle.bursts.specs.declared.Beat.{Beat}
 use Rattle.bursts.specs.declared.Beat.the-variants.{Quiet, Stores, Drives}
-use Rattle.bursts.specs.Burst.{no-burst, burst-at, cut-by, write-beat, read-beat, finished}
+use Rattle.bursts.specs.Burst.{no-burst, burst-at, cut-by, write-beat, reads-on, read-beat, finished}
 
 -- ── Masks ──
 
@@ -61,6 +61,11 @@ or-else (Drives c) b = Drives c
 abbrev pub reads-beat : List Burst → ℕ → Clock → Beat
 reads-beat [] masks n = Quiet
 reads-beat (b ∷ bs) masks n = or-else (read-beat b masks n) (reads-beat bs masks n)
+
+-- some READ has a beat on clock n
+abbrev pub reads-run : List Burst → Clock → Bool
+reads-run [] n = false
+reads-run (b ∷ bs) n = reads-on b n || reads-run bs n
 
 -- ── What a record leaves on the bus ──
 

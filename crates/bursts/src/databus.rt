@@ -1,19 +1,20 @@
 // The data bus: what a record leaves on it, the beat on a clock, and numbers 19 and 20 (01, Beats).
 ghost use mathlib.Core.Path.{_≡_};
-ghost use Rattle.bursts.specs.Bus.{quiet-bus, write-after, bus-after, beat-on, bursts-finished, driven, one-before, bus-clear};
+ghost use Rattle.bursts.specs.Bus.{quiet-bus, write-after, bus-after, beat-on, bursts-finished, one-before, bus-clear};
 use crate::Beat;
 use crate::Burst;
 use crate::Bus;
 use crate::Masks;
-use crate::beats::or_else;
 use crate::cuts::is;
+use crate::masking::ALL_HIGH;
 use crate::masking::masks_on;
 use crate::masking::two_before;
 use crate::reads::no_reads;
 use crate::reads::reads_after;
 use crate::reads::reads_beat;
-use crate::reads::reads_drive;
+use crate::reads::reads_clear;
 use crate::reads::reads_finished;
+use crate::reads::reads_run;
 use layout::Command;
 use layout::Record;
 use mode::write_length;
@@ -65,7 +66,7 @@ pub fn bus_after(k: Command, r: Record, n: Clock, word: u16, row: u16, u: Bus) -
 }
 
 // "The beat on its own clock", n, of a record with these masks, from the bursts that it leaves. A WRITE's lanes hang on
-// the record's own masks, a READ's on those of two clocks before.
+// the record's own masks, a READ's on those of two clocks before, which are looked up only where a READ runs.
 pub fn beat_on(
     last: Event,
     held: Masks,
@@ -77,9 +78,14 @@ pub fn beat_on(
     ensures { λ r. ⌜ r ≡ beat-on last held write reads masks n ⌝ }
 {
     let stored = write.write_beat(masks, n);
-    let earlier = masks_on(last, held, two_before(n));
-    let driven = reads_beat(reads, earlier, n);
-    or_else(stored, driven)
+    let Beat::Quiet = stored else {
+        return stored;
+    };
+    if reads_run(reads, n) {
+        let earlier = masks_on(last, held, two_before(n));
+        return reads_beat(reads, earlier, n);
+    }
+    Beat::Quiet
 }
 
 // Number 19: no auto precharge burst is unfinished on clock n. A WRITE with M9 = 1 has length 1; the length
@@ -96,14 +102,6 @@ pub fn bursts_finished(write: Burst, reads: [Burst; 4], n: Clock) -> bool
     reads_finished(n, reads)
 }
 
-// Some lane is driven on clock n, if no WRITE stands there.
-pub fn driven(last: Event, held: Masks, reads: [Burst; 4], n: Clock) -> bool
-    ensures { λ r. ⌜ r ≡ driven last held reads n ⌝ }
-{
-    let earlier = masks_on(last, held, two_before(n));
-    reads_drive(reads, earlier, n)
-}
-
 // The clock before n.
 pub fn one_before(n: Clock) -> Clock
     ensures { λ r. ⌜ r ≡ one-before n ⌝ }
@@ -111,12 +109,13 @@ pub fn one_before(n: Clock) -> Clock
     if n.0 < 1 { Clock(0) } else { Clock(n.0 - 1) }
 }
 
-// Number 20: no lane "would be driven on its clock, or is driven one clock before" (004's extra clock form).
+// Number 20: no lane "would be driven on its clock, or is driven one clock before" (004's extra clock form). The masks of
+// both clocks come first: where they are all HIGH no READ drives a lane, and none is looked at.
 pub fn bus_clear(last: Event, held: Masks, reads: [Burst; 4], n: Clock) -> bool
     ensures { λ r. ⌜ r ≡ bus-clear last held reads n ⌝ }
 {
-    if driven(last, held, reads, n) {
-        return false;
-    }
-    !driven(last, held, reads, one_before(n))
+    let now = masks_on(last, held, two_before(n));
+    let m = one_before(n);
+    let before = masks_on(last, held, two_before(m));
+    reads_clear(reads, now != ALL_HIGH, before != ALL_HIGH, n, m)
 }

@@ -1,14 +1,13 @@
 // The four READ bursts that can still have beats, the latest first (01, Beats). They are walked by value.
 ghost use mathlib.Core.Path.{_≡_};
-ghost use mathlib.Core.Bool.{_||_};
+ghost use mathlib.Core.Bool.{not, _&&_, _||_};
 ghost use Rattle.layout.specs.declared.Command.the-variants.{Terminate, Precharge};
 ghost use Rattle.layout.specs.Commands.{is, access};
 ghost use Rattle.mode.specs.Word.{length-of};
-ghost use Rattle.bursts.specs.Burst.{finished};
-ghost use Rattle.bursts.specs.Bus.{no-reads, reads-beat, drives-lane, cut-each, reads-from, reads-after, reads-finished};
+ghost use Rattle.bursts.specs.Burst.{reads-on, finished};
+ghost use Rattle.bursts.specs.Bus.{no-reads, reads-beat, reads-run, cut-each, reads-from, reads-after, reads-finished};
 use crate::Beat;
 use crate::Burst;
-use crate::beats::lanes_low;
 use crate::beats::or_else;
 use crate::cuts::is;
 use layout::Command;
@@ -43,16 +42,20 @@ pub fn reads_beat(bs: [Burst; 4], masks: u8, n: Clock) -> Beat
     or_else(a, or_else(b, or_else(c, d)))
 }
 
-// Some lane of a READ is driven on clock n: number 20 asks no more than that.
-pub fn reads_drive(bs: [Burst; 4], masks: u8, n: Clock) -> bool
-    ensures { λ r. ⌜ r ≡ drives-lane (reads-beat bs masks n) ⌝ }
+// Some READ has a beat on clock n. By early returns: a READ that runs spares a look at the older ones.
+pub fn reads_run(bs: [Burst; 4], n: Clock) -> bool
+    ensures { λ r. ⌜ r ≡ reads-run bs n ⌝ }
 {
-    let a = bs[0].reads_on(n);
-    let b = bs[1].reads_on(n);
-    let c = bs[2].reads_on(n);
-    let d = bs[3].reads_on(n);
-    let lanes = lanes_low(masks);
-    (a | (b | (c | d))) & (lanes != 0)
+    if bs[0].reads_on(n) {
+        return true;
+    }
+    if bs[1].reads_on(n) {
+        return true;
+    }
+    if bs[2].reads_on(n) {
+        return true;
+    }
+    bs[3].reads_on(n)
 }
 
 // Each burst as this command on clock n leaves it.
@@ -114,6 +117,22 @@ impl Burst {
         }
         self.finished(length_of(self.word), n)
     }
+
+    // A READ's burst drives no lane on clock n, nor on clock m. `lane` and `earlier` say whether the masks leave a lane
+    // on n and on m: where they leave none, or there is no burst, no beat is looked for.
+    pub fn leaves_clear(self, lane: bool, earlier: bool, n: Clock, m: Clock) -> bool
+        ensures { λ r. ⌜ r ≡ (not (lane && reads-on self n) && not (earlier && reads-on self m)) ⌝ }
+    {
+        if self.live & (lane | earlier) {
+            if lane & self.reads_on(n) {
+                return false;
+            }
+            if earlier & self.reads_on(m) {
+                return false;
+            }
+        }
+        true
+    }
 }
 
 // Each of the four asks no auto precharge, or is finished.
@@ -124,5 +143,16 @@ pub fn reads_finished(n: Clock, bs: [Burst; 4]) -> bool
     let b = bs[1].read_finished(n);
     let c = bs[2].read_finished(n);
     let d = bs[3].read_finished(n);
+    a & (b & (c & d))
+}
+
+// None of the four drives a lane on clock n, nor on clock m.
+pub fn reads_clear(bs: [Burst; 4], lane: bool, earlier: bool, n: Clock, m: Clock) -> bool
+    ensures { λ r. ⌜ r ≡ (not (lane && reads-run bs n) && not (earlier && reads-run bs m)) ⌝ }
+{
+    let a = bs[0].leaves_clear(lane, earlier, n, m);
+    let b = bs[1].leaves_clear(lane, earlier, n, m);
+    let c = bs[2].leaves_clear(lane, earlier, n, m);
+    let d = bs[3].leaves_clear(lane, earlier, n, m);
     a & (b & (c & d))
 }

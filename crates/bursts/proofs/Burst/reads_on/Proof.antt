@@ -21,7 +21,7 @@ before-cut-requires : tie.Need-before-cut-requires
 before-cut-requires c κs = search needs
 
 returns-3 : tie.Need-returns-3
-returns-3 c = reads-none-when-cut (c .before .before .before .before .before .before .before .before .args .self) (c .before .before .before .before .before .before .before .before .args .n) (rw (← c .before .before .before .before .before .latency .ensures, ← c .before .before-cut .ensures) (not-true _ (c .if3 .taken)))
+returns-3 c = let a = c .before .before .before .before .before .before .before .before .args in reads-none-when-cut (a .self) (a .n) (rw (← c .before .before .before .before .before .latency .ensures, ← c .before .before-cut .ensures) (not-true _ (c .if3 .taken)))
 
 length-of-requires : tie.Need-length-of-requires
 length-of-requires c κs = search needs
