@@ -1,4 +1,5 @@
 pub mod Codes
+pub mod Joined
 pub mod ReadBack
 pub mod Widths
 pub mod Words

@@ -54,15 +54,19 @@ pub enum Command {
     LoadMode,
 }
 
-// Eight bytes as one number, "most significant bit first".
+// Eight bytes as one number, "most significant bit first". By `|` and not `+`, and in one expression: of that LLVM makes
+// one load and one byte swap.
 pub fn word(a: u8, b: u8, c: u8, d: u8, e: u8, f: u8, g: u8, h: u8) -> u64
     ensures { λ r. ⌜ r ≡ number-after 0 (a ∷ b ∷ c ∷ d ∷ e ∷ f ∷ g ∷ h ∷ []) ⌝ }
 {
-    let ab = (a as u64) * 256 + (b as u64);
-    let cd = (c as u64) * 256 + (d as u64);
-    let ef = (e as u64) * 256 + (f as u64);
-    let gh = (g as u64) * 256 + (h as u64);
-    ((ab * 65_536 + cd) * 65_536 + ef) * 65_536 + gh
+    (a as u64) * 72_057_594_037_927_936
+        | (b as u64) * 281_474_976_710_656
+        | (c as u64) * 1_099_511_627_776
+        | (d as u64) * 4_294_967_296
+        | (e as u64) * 16_777_216
+        | (f as u64) * 65_536
+        | (g as u64) * 256
+        | (h as u64)
 }
 
 // A header out of its two words: version 8 bits, period 24, count 16, grade 8, bank 2, row 13, zeros 57. The row's
