@@ -3,15 +3,14 @@
 // `own` is the record's bank of `all`: a function that looks it up by its number would copy the four to do so.
 ghost use mathlib.Core.Path.{_≡_};
 ghost use mathlib.Core.Bool.{true, false};
-ghost use Rattle.layout.specs.Commands.{executable, code-of};
+ghost use Rattle.layout.specs.Commands.{code-of};
 ghost use Prim.Native.Nat.{_≤_, _<_};
 ghost use Rattle.layout.specs.declared.Command.the-variants as Command;
-ghost use Rattle.rules.specs.Numbers.{first-broken, asked};
+ghost use Rattle.rules.specs.Numbers.{first-broken};
 ghost use Rattle.parts.specs.Reach.{Call};
 ghost use Rattle.rules.specs.StartUp.{begun};
 ghost use Rattle.rules.specs.Banks.{bank-at};
-ghost use Rattle.rules.specs.Rules.{clock-max, command-rules, rules};
-use crate::every;
+ghost use Rattle.rules.specs.Rules.{clock-max, command-rules};
 use crate::minima;
 use crate::verdicts;
 use layout::Command;
@@ -195,43 +194,4 @@ pub fn ask_burst(
         return Verdict::refused(15);
     }
     Verdict::refused(14)
-}
-
-// "14 to 22 only on executable commands."
-fn ask_command(
-    k: Command,
-    t: SpeedTable,
-    c: Core,
-    all: [Bank; 4],
-    r: Record,
-    n: Clock,
-    now: Ps,
-) -> Verdict
-    requires { ⌜ Call t c all r × (n .0 ≤ clock-max) ⌝ }
-    ensures { λ x. ⌜ x ≡ first-broken (asked (executable k) (command-rules k t c all r n now)) ⌝ }
-{
-    let own = all[r.ba as usize];
-    let code = layout::code_of(k);
-    if code < 4 {
-        return ask_banks(k, t, c, own, all, r, n, now);
-    }
-    if code < 7 {
-        return ask_burst(k, t, c, own, all, r, n, now);
-    }
-    Verdict::Taken
-}
-
-// May record r stand on clock n, at time now?
-pub fn ask(t: SpeedTable, c: Core, all: [Bank; 4], r: Record, n: Clock, now: Ps) -> Verdict
-    requires { ⌜ Call t c all r ⌝ }
-    ensures { λ x. ⌜ x ≡ first-broken (rules t c all r n now) ⌝ }
-{
-    let startup = c.startup;
-    let refreshes = startup.refreshes;
-    let v = every::ask_every(t, c.period, refreshes, all, r, n, now);
-    let Verdict::Taken = v else {
-        return v;
-    };
-    let k = layout::command_of(r.code);
-    ask_command(k, t, c, all, r, n, now)
 }

@@ -14,6 +14,7 @@ mod maxima;
 mod minima;
 mod since;
 mod verdicts;
+mod whole;
 
 // Which minima are not met, in the order of number 16's intervals.
 pub struct Shorts {
@@ -38,5 +39,5 @@ pub fn ask(u: Setup, s: State, r: Record) -> Verdict
     let last = core.last;
     let n = time::clock_of(last, r.skipped);
     let now = time::at(core.period, n);
-    commands::ask(t, core, all, r, n, now)
+    whole::ask(t, core, all, r, n, now)
 }

@@ -76,7 +76,7 @@ impl Burst {
     }
 
     // "WRITE at w: beat i on w + i", stored on the lanes with DQMB LOW on that clock. With M9 = 1 there is one beat. The
-    // cut is looked at first: most bursts are cut long before, and then no length is worked out.
+    // cut is looked at first: a burst that is cut by then needs no length.
     pub fn write_beat(self, masks: u8, n: Clock) -> Beat
         ensures { λ r. ⌜ r ≡ write-beat self masks n ⌝ }
     {

@@ -5,7 +5,7 @@ use Rattle.asking.proofs.ask.Statement.{statement}
 use Rattle.asking.proofs.ask.Tie as tie
 use Rattle.asking.proofs.ask.Reads as reads
 use Rattle.asking.proofs.ask.Lts as lts
-use Rattle.asking.proofs.commands.ask.Reads as ask-reads
+use Rattle.asking.proofs.whole.ask.Reads as ask-reads
 use Rattle.parts.proofs.time.clock_of.Reads as clock-of-reads
 use Rattle.parts.proofs.time.at.Reads as at-reads
 

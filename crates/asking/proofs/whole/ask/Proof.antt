@@ -3,11 +3,11 @@ use mathlib.Core.Path.{sym, _∙_}
 use Rattle.rules.proofs.Kept.{every-clock}
 use Rattle.asking.proofs.Ladders.{first-join}
 use borrow.Author.Needs.{needs}
-use Rattle.asking.proofs.commands.ask.Statement.{statement}
-use Rattle.asking.proofs.commands.ask.Tie as tie
-use Rattle.asking.proofs.commands.ask.Reads as reads
-use Rattle.asking.proofs.commands.ask.Lts as lts
-use Rattle.asking.proofs.commands.ask_command.Reads as ask-command-reads
+use Rattle.asking.proofs.whole.ask.Statement.{statement}
+use Rattle.asking.proofs.whole.ask.Tie as tie
+use Rattle.asking.proofs.whole.ask.Reads as reads
+use Rattle.asking.proofs.whole.ask.Lts as lts
+use Rattle.asking.proofs.whole.ask_command.Reads as ask-command-reads
 use Rattle.asking.proofs.every.ask_every.Reads as ask-every-reads
 use Rattle.layout.proofs.command_of.Reads as command-of-reads
 

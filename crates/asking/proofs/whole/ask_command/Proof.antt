@@ -2,10 +2,10 @@ use Rattle.layout.specs.Commands.{code-of}
 use borrow.Author.Tests.{lt-ltb, le-ltb}
 use native.Mathlib.Omega.{arith}
 use borrow.Author.Needs.{needs}
-use Rattle.asking.proofs.commands.ask_command.Statement.{statement}
-use Rattle.asking.proofs.commands.ask_command.Tie as tie
-use Rattle.asking.proofs.commands.ask_command.Reads as reads
-use Rattle.asking.proofs.commands.ask_command.Lts as lts
+use Rattle.asking.proofs.whole.ask_command.Statement.{statement}
+use Rattle.asking.proofs.whole.ask_command.Tie as tie
+use Rattle.asking.proofs.whole.ask_command.Reads as reads
+use Rattle.asking.proofs.whole.ask_command.Lts as lts
 use Rattle.asking.proofs.commands.ask_banks.Reads as ask-banks-reads
 use Rattle.asking.proofs.commands.ask_burst.Reads as ask-burst-reads
 use Rattle.layout.proofs.code_of.Reads as code-of-reads
