@@ -30,11 +30,10 @@ fn ask_command(
     ensures { λ x. ⌜ x ≡ first-broken (asked (executable k) (command-rules k t c all r n now)) ⌝ }
 {
     let own = all[r.ba as usize];
-    let code = layout::code_of(k);
-    if code < 4 {
+    if layout::code_of(k) < 4 {
         return commands::ask_banks(k, t, c, own, all, r, n, now);
     }
-    if code < 7 {
+    if layout::is_executable(k) {
         return commands::ask_burst(k, t, c, own, all, r, n, now);
     }
     Verdict::Taken

@@ -64,8 +64,8 @@ use Rattle.rules.specs.After.{
 }
 use Rattle.rules.proofs.Four.{four}
 use Rattle.device.specs.InPlace.{state-of}
-use Rattle.device.specs.Marks.{stores-byte, bank-of}
-use Rattle.device.proofs.Leaves.{each-four, each-same, untouched}
+use Rattle.taking.specs.Marks.{stores-byte, bank-of}
+use Rattle.taking.proofs.Leaves.{each-four, each-same, untouched}
 
 -- ── The bus ──
 

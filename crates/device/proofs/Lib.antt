@@ -1,4 +1,3 @@
-pub mod Leaves
 pub mod InPlace
 pub mod Starts
 pub mod Turns

@@ -4,18 +4,44 @@ ghost use Prim.Native.Nat.{_≤_};
 ghost use Rattle.rules.specs.Parts.{clock-of};
 ghost use Rattle.parts.specs.Reach.{Call};
 ghost use Rattle.rules.specs.Rules.{clock-max};
-ghost use Rattle.rules.specs.After.{taking};
+ghost use Rattle.rules.specs.Fits.{number-max};
+ghost use Rattle.rules.specs.After.{core-from, taking};
 ghost use Rattle.device.specs.Turn.{turned, turn-of};
 use crate::Turn;
-use crate::leaving;
 use bursts::Beat;
+use bursts::Bus;
 use bursts::databus;
+use layout::Command;
 use layout::Record;
 use parts::time;
+use rules::Core;
 use rules::Setup;
 use rules::State;
 use rules::Taking;
 use rules::Verdict;
+use taking::leaving;
+use units::Clock;
+use units::Event;
+
+// All but the banks.
+fn core_from(c: Core, k: Command, r: Record, n: Clock, bus: Bus) -> Core
+    requires { ⌜ c .number ≤ number-max ⌝ }
+    ensures { λ x. ⌜ x ≡ core-from c k r n bus ⌝ }
+{
+    let old = c.startup;
+    let startup = leaving::startup_after(k, r, n, old);
+    let last = Event::On(n);
+    let period = c.period;
+    Core {
+        period,
+        bank: c.bank,
+        row: c.row,
+        number: c.number + 1,
+        last,
+        startup,
+        bus,
+    }
+}
 
 // What does it leave?
 pub fn take(u: Setup, s: State, r: Record) -> Taking
@@ -37,7 +63,7 @@ pub fn take(u: Setup, s: State, r: Record) -> Taking
     let reads = bus.reads;
     let beat = databus::beat_on(last, held, write, reads, r.masks, n);
     let after = leaving::banks_moved(k, t, c.period, startup, r, n, all);
-    let core = leaving::core_from(c, k, r, n, bus);
+    let core = core_from(c, k, r, n, bus);
     let banks = leaving::mark_banks(beat, n, after);
     let next = State { core, banks };
     Taking { beat, next }

@@ -5,7 +5,6 @@ use rules::State;
 use rules::Verdict;
 
 mod call;
-mod leaving;
 mod many;
 mod single;
 

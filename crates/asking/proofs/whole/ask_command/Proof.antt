@@ -1,6 +1,7 @@
 use Rattle.layout.specs.Commands.{code-of}
-use borrow.Author.Tests.{lt-ltb, le-ltb}
+use borrow.Author.Tests.{lt-ltb, ltb-true}
 use native.Mathlib.Omega.{arith}
+use mathlib.Core.Path.{refl, sym, _∙_}
 use borrow.Author.Needs.{needs}
 use Rattle.asking.proofs.whole.ask_command.Statement.{statement}
 use Rattle.asking.proofs.whole.ask_command.Tie as tie
@@ -9,42 +10,47 @@ use Rattle.asking.proofs.whole.ask_command.Lts as lts
 use Rattle.asking.proofs.commands.ask_banks.Reads as ask-banks-reads
 use Rattle.asking.proofs.commands.ask_burst.Reads as ask-burst-reads
 use Rattle.layout.proofs.code_of.Reads as code-of-reads
+use Rattle.layout.proofs.is_executable.Reads as is-executable-reads
 
--- src/commands.rt:213:19
+-- src/whole.rt:32:19
 cast-own : tie.Need-cast-own
 cast-own c = search needs
 
--- src/commands.rt:213:15
+-- src/whole.rt:32:15
 mul-own : tie.Need-mul-own
 mul-own c = search needs
 
--- src/commands.rt:213:15
+-- src/whole.rt:32:15
 array-copy-out-own : tie.Need-array-copy-out-own
 array-copy-out-own c = search needs
 
--- src/commands.rt:214:9
+-- src/whole.rt:33:8
 code-of-requires : tie.Need-code-of-requires
 code-of-requires c κs = search needs
 
--- src/commands.rt:216:9
+-- src/whole.rt:34:9
 ask-banks-requires : tie.Need-ask-banks-requires
 ask-banks-requires c κs = search needs
 
--- src/commands.rt:216:9
+-- src/whole.rt:34:9
 returns : tie.Need-returns
 returns c = rw (lt-ltb (code-of (c .before .before .before .before .before .args .k)) 7 (omega (arith, c .before .before .code-of .ensures, c .before .if1 .taken))) (c .ask-banks .ensures)
 
--- src/commands.rt:219:9
+-- src/whole.rt:36:8
+is-executable-requires : tie.Need-is-executable-requires
+is-executable-requires c κs = search needs
+
+-- src/whole.rt:37:9
 ask-burst-requires : tie.Need-ask-burst-requires
-ask-burst-requires c κs = search needs
+ask-burst-requires c κs = (c .before .before .before .before .before .before .pre .0, refl, omega (arith, c .before .before .before .code-of .ensures, c .before .before .if1 .left), ltb-true (code-of (c .before .before .before .before .before .before .args .k)) 7 (sym (c .before .is-executable .ensures) ∙ c .if2 .taken), c .before .before .before .before .before .before .pre .1)
 
--- src/commands.rt:219:9
+-- src/whole.rt:37:9
 returns-2 : tie.Need-returns-2
-returns-2 c = rw (lt-ltb (code-of (c .before .before .before .before .before .before .args .k)) 7 (omega (arith, c .before .before .before .code-of .ensures, c .before .if2 .taken))) (c .ask-burst .ensures)
+returns-2 c = rw (sym (c .before .before .is-executable .ensures) ∙ c .before .if2 .taken) (c .ask-burst .ensures)
 
--- src/commands.rt:201:1
+-- src/whole.rt:20:1
 returns-3 : tie.Need-returns-3
-returns-3 c = rw (le-ltb (code-of (c .before .before .before .before .before .args .k)) 7 (omega (arith, c .before .before .code-of .ensures, c .if2 .left)))
+returns-3 c = rw (sym (c .before .is-executable .ensures) ∙ c .if2 .left)
 
 pub ask-command-spec : {M : Type 1} → statement M
 ask-command-spec =
@@ -56,6 +62,7 @@ ask-command-spec =
     code-of-requires
     ask-banks-requires
     returns
+    is-executable-requires
     ask-burst-requires
     returns-2
     returns-3)

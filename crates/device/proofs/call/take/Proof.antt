@@ -9,10 +9,10 @@ use Rattle.device.proofs.call.take.Tie as tie
 use Rattle.device.proofs.call.take.Reads as reads
 use Rattle.device.proofs.call.take.Lts as lts
 use Rattle.bursts.proofs.databus.beat_on.Reads as beat-on-reads
-use Rattle.device.proofs.leaving.banks_moved.Reads as banks-moved-reads
-use Rattle.device.proofs.leaving.bus_moved.Reads as bus-moved-reads
-use Rattle.device.proofs.leaving.core_from.Reads as core-from-reads
-use Rattle.device.proofs.leaving.mark_banks.Reads as mark-banks-reads
+use Rattle.taking.proofs.leaving.banks_moved.Reads as banks-moved-reads
+use Rattle.taking.proofs.leaving.bus_moved.Reads as bus-moved-reads
+use Rattle.device.proofs.call.core_from.Reads as core-from-reads
+use Rattle.taking.proofs.leaving.mark_banks.Reads as mark-banks-reads
 use Rattle.layout.proofs.command_of.Reads as command-of-reads
 use Rattle.parts.proofs.time.clock_of.Reads as clock-of-reads
 

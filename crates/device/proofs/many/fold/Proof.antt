@@ -41,7 +41,7 @@ use Rattle.rules.proofs.Kept.{every-clock}
 use Rattle.parts.specs.Reach.{Able, Call}
 use Rattle.parts.proofs.Times.{clock-reach}
 use Rattle.asking.proofs.Asked.{every-refused, command-decides, nothing-more}
-use Rattle.device.specs.Marks.{bank-of}
+use Rattle.taking.specs.Marks.{bank-of}
 use Rattle.device.specs.InPlace.{whole, core-of, state-of}
 use Rattle.device.proofs.InPlace.{bus-ended, bus-left, startup-kept, in-place, as-it-was, commanded-length, mark-length, mark-none, mark-one, bank-small, Settled, settled}
 use Rattle.device.proofs.Folds.{able-call, goes-on, stays-able, stops}
@@ -58,15 +58,15 @@ use Rattle.asking.proofs.every.ask_every.Reads as ask-every-reads
 use Rattle.bursts.proofs.Masks.after.Reads as after-reads
 use Rattle.bursts.proofs.databus.beat_on.Reads as beat-on-reads
 use Rattle.bursts.proofs.reads.can_end.Reads as can-end-reads
-use Rattle.device.proofs.leaving.activated.Reads as activated-reads
-use Rattle.device.proofs.leaving.bank_of.Reads as bank-of-reads
-use Rattle.device.proofs.leaving.banks_moved.Reads as banks-moved-reads
-use Rattle.device.proofs.leaving.bus_moved.Reads as bus-moved-reads
-use Rattle.device.proofs.leaving.closes_itself.Reads as closes-itself-reads
-use Rattle.device.proofs.leaving.marked.Reads as marked-reads
-use Rattle.device.proofs.leaving.self_closed.Reads as self-closed-reads
-use Rattle.device.proofs.leaving.startup_after.Reads as startup-after-reads
-use Rattle.device.proofs.leaving.stores.Reads as stores-reads
+use Rattle.taking.proofs.leaving.activated.Reads as activated-reads
+use Rattle.taking.proofs.leaving.bank_of.Reads as bank-of-reads
+use Rattle.taking.proofs.leaving.banks_moved.Reads as banks-moved-reads
+use Rattle.taking.proofs.leaving.bus_moved.Reads as bus-moved-reads
+use Rattle.taking.proofs.leaving.closes_itself.Reads as closes-itself-reads
+use Rattle.taking.proofs.leaving.marked.Reads as marked-reads
+use Rattle.taking.proofs.leaving.self_closed.Reads as self-closed-reads
+use Rattle.taking.proofs.leaving.startup_after.Reads as startup-after-reads
+use Rattle.taking.proofs.leaving.stores.Reads as stores-reads
 use Rattle.device.proofs.many.core_of.Reads as core-of-reads
 use Rattle.device.proofs.many.ended.Reads as ended-reads
 use Rattle.device.proofs.many.record_in.Reads as record-in-reads

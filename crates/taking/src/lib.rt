@@ -1,0 +1,2 @@
+// What does a record leave? The parts of the next state, for a record that asking has passed.
+pub mod leaving;
