@@ -1,4 +1,5 @@
 pub mod InPlace
+pub mod Ahead
 pub mod Starts
 pub mod Turns
 pub mod Folds

@@ -23,3 +23,9 @@ pub struct Outcome {
     pub answer: Answer,
     pub next: Device,
 }
+
+// The two words of a record's 16 bytes.
+pub struct Words {
+    pub first: u64,
+    pub second: u64,
+}

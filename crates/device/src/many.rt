@@ -2,14 +2,15 @@
 ghost use mathlib.Core.Path.{_≡_};
 ghost use Prim.Native.Nat.{_≤_, _*_, _+_};
 ghost use lib.ListN.{length, set};
-ghost use Rattle.layout.specs.Bytes.{word-at, record-of, records-of};
+ghost use Rattle.layout.specs.Bytes.{records-of};
 ghost use Rattle.rules.specs.Numbers.{first-broken};
 ghost use Rattle.rules.specs.Parts.{start};
 ghost use Rattle.rules.specs.Fits.{number-max};
 ghost use Rattle.parts.specs.Reach.{Able};
 ghost use Rattle.rules.specs.Report.{beat-word, cells-word, put-line, left, ran, fold, records-rules, records-call};
-ghost use Rattle.device.specs.InPlace.{whole, core-of};
+ghost use Rattle.device.specs.InPlace.{words-ahead, whole, core-of};
 use crate::Device;
+use crate::Words;
 use crate::single;
 use asking::commands;
 use asking::every;
@@ -18,7 +19,6 @@ use bursts::Bus;
 use bursts::Cells;
 use bursts::databus;
 use bursts::reads;
-use layout::Record;
 use parts::time;
 use rules::Bank;
 use rules::Core;
@@ -76,13 +76,19 @@ fn report(beats: &mut [u64], k: u64, beat: Beat, n: Clock)
     put(beats, at + 1, n.0);
 }
 
-// The record of these 16 bytes, whose first word has been read.
-fn record_in(first: u64, part: &[u8]) -> Record
-    requires { ⌜ (length (now part) ≡ 16) × (first ≡ word-at (now part) 0) ⌝ }
-    ensures { λ x. ⌜ x ≡ record-of (now (part .entry)) ⌝ }
+// The words of the record at the start of `bytes`; with under 16 bytes there is none, and zeros stand for them.
+fn words_of(bytes: &[u8]) -> Words
+    ensures { λ x. ⌜ x ≡ words-ahead (now (bytes .entry)) ⌝ }
 {
-    let second = layout::first_word(&part[8..16]);
-    layout::record_from(first, second)
+    if bytes.len() < 16 {
+        return Words {
+            first: 0,
+            second: 0,
+        };
+    }
+    let first = layout::first_word(bytes);
+    let second = layout::first_word(&bytes[8..16]);
+    Words { first, second }
 }
 
 // All but the banks; period, watched bank and row stay as they are in c.
@@ -109,8 +115,8 @@ fn ended(verdict: Verdict, reported: u64) -> Ran
 
 // `count` records from a state, each asked and taken in its turn, up to the first that is refused. The state is held in its
 // parts and changed in place: most records leave most of it, and to build it anew for each cost more than judging it. For the
-// same reason a command is asked here, and not behind one call that would be given the whole state; and the first word of the
-// next record is read at the end of a turn, where it is one load.
+// same reason a command is asked here, and not behind one call that would be given the whole state; and a record's two words are
+// read a turn ahead, where each is one load.
 fn fold(
     u: Setup,
     core: Core,
@@ -130,11 +136,10 @@ fn fold(
     let mut startup = core.startup;
     let mut bus = core.bus;
     let mut all = banks;
-    let mut first = layout::first_word(bytes);
+    let mut words = words_of(bytes);
     let mut j = 0;
     while j < count {
-        let at = 16 * j;
-        let r = record_in(first, &bytes[at..at + 16]);
+        let r = layout::record_from(words.first, words.second);
         let n = time::clock_of(last, r.skipped);
         let now = time::at(period, n);
         let refreshes = startup.refreshes;
@@ -191,7 +196,7 @@ fn fold(
         number += 1;
         j += 1;
         let next = 16 * j;
-        first = layout::first_word(&bytes[next..]);
+        words = words_of(&bytes[next..]);
     }
     ended(Verdict::Taken, number)
 }

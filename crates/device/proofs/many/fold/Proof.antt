@@ -5,18 +5,17 @@ use mathlib.Core.Path.{_≡_, refl, ap, sym, subst, _∙_}
 use mathlib.Core.Logic.{⊎-elim}
 use mathlib.Core.Bool.{Bool, true, false, _&&_, cond, true≢false}
 use mathlib.Core.List.{List}
-use lib.Dec.{ltb, leb}
-use lib.ListN.{length, set, take, drop, length-take, length-drop}
-use lib.Seq.{take-all, take-take}
+use lib.Dec.{ltb}
+use lib.ListN.{length, set, take, drop}
 use borrow.Author.Needs.{needs}
-use borrow.Author.Tests.{eq-eqb, ne-eqb, lt-ltb, le-ltb, ltb-true, ltb-false, le-leb}
+use borrow.Author.Tests.{eq-eqb, ne-eqb, lt-ltb, le-ltb, ltb-true, ltb-false}
 use Rattle.units.specs.declared.Clock.{Clock}
 use Rattle.units.specs.declared.Event.the-variants.{On}
 use Rattle.units.specs.Time.{at}
 use Rattle.layout.specs.declared.Record.{Record}
 use Rattle.layout.specs.declared.Command.{Command}
 use Rattle.layout.specs.declared.Command.the-variants.{Active}
-use Rattle.layout.specs.Bytes.{number-after, word-at, records-of}
+use Rattle.layout.specs.Bytes.{record-of, records-of}
 use Rattle.layout.specs.Commands.{command, code-of, is, executable}
 use Rattle.layout.specs.Widths.{Widths}
 use Rattle.layout.proofs.Widths.{record-fits}
@@ -42,7 +41,8 @@ use Rattle.parts.specs.Reach.{Able, Call}
 use Rattle.parts.proofs.Times.{clock-reach}
 use Rattle.asking.proofs.Asked.{every-refused, command-decides, nothing-more}
 use Rattle.taking.specs.Marks.{bank-of}
-use Rattle.device.specs.InPlace.{whole, core-of, state-of}
+use Rattle.device.specs.InPlace.{words-ahead, whole, core-of, state-of}
+use Rattle.device.proofs.Ahead.{words-read, next-read}
 use Rattle.device.proofs.InPlace.{bus-ended, bus-left, startup-kept, in-place, as-it-was, commanded-length, mark-length, mark-none, mark-one, bank-small, Settled, settled}
 use Rattle.device.proofs.Folds.{able-call, goes-on, stays-able, stops}
 use Rattle.speed.specs.declared.SpeedTable.{SpeedTable}
@@ -58,6 +58,16 @@ use Rattle.asking.proofs.every.ask_every.Reads as ask-every-reads
 use Rattle.bursts.proofs.Masks.after.Reads as after-reads
 use Rattle.bursts.proofs.databus.beat_on.Reads as beat-on-reads
 use Rattle.bursts.proofs.reads.can_end.Reads as can-end-reads
+use Rattle.device.proofs.many.core_of.Reads as core-of-reads
+use Rattle.device.proofs.many.ended.Reads as ended-reads
+use Rattle.device.proofs.many.report.Reads as report-reads
+use Rattle.device.proofs.many.words_of.Reads as words-of-reads
+use Rattle.layout.proofs.code_of.Reads as code-of-reads
+use Rattle.layout.proofs.command_of.Reads as command-of-reads
+use Rattle.layout.proofs.record_from.Reads as record-from-reads
+use Rattle.page.proofs.stored.Reads as stored-reads
+use Rattle.parts.proofs.time.at.Reads as at-reads
+use Rattle.parts.proofs.time.clock_of.Reads as clock-of-reads
 use Rattle.taking.proofs.leaving.activated.Reads as activated-reads
 use Rattle.taking.proofs.leaving.bank_of.Reads as bank-of-reads
 use Rattle.taking.proofs.leaving.banks_moved.Reads as banks-moved-reads
@@ -67,41 +77,6 @@ use Rattle.taking.proofs.leaving.marked.Reads as marked-reads
 use Rattle.taking.proofs.leaving.self_closed.Reads as self-closed-reads
 use Rattle.taking.proofs.leaving.startup_after.Reads as startup-after-reads
 use Rattle.taking.proofs.leaving.stores.Reads as stores-reads
-use Rattle.device.proofs.many.core_of.Reads as core-of-reads
-use Rattle.device.proofs.many.ended.Reads as ended-reads
-use Rattle.device.proofs.many.record_in.Reads as record-in-reads
-use Rattle.device.proofs.many.report.Reads as report-reads
-use Rattle.layout.proofs.code_of.Reads as code-of-reads
-use Rattle.layout.proofs.command_of.Reads as command-of-reads
-use Rattle.layout.proofs.first_word.Reads as first-word-reads
-use Rattle.page.proofs.stored.Reads as stored-reads
-use Rattle.parts.proofs.time.at.Reads as at-reads
-use Rattle.parts.proofs.time.clock_of.Reads as clock-of-reads
-
--- the part of the bytes that a turn reads has 16
-sixteen : (k : ℕ) (s : List ℕ) → take (16 * k + 16 - 16 * k) s ≡ take 16 s
-sixteen k s = let e : 16 * k + 16 - 16 * k ≡ 16 = omega arith in ap (λ (m : ℕ). take m s) e
-
-part-length : (k count : ℕ) (s : List ℕ) → length s ≡ 16 * count → k < count → length (take (16 * k + 16 - 16 * k) (drop (16 * k) s)) ≡ 16
-part-length k count s h l = simp (length-take, length-drop) (omega arith)
-
--- the first word of a slice, as it is read ahead of the record
-abbrev ahead : List ℕ → ℕ
-ahead s = cond (leb 8 (length s)) (word-at s 0) 0
-
-first-read : (k count x : ℕ) (s : List ℕ) → length s ≡ 16 * count → k < count → x ≡ ahead (drop (16 * k) s)
-    → x ≡ word-at (take (16 * k + 16 - 16 * k) (drop (16 * k) s)) 0
-first-read k count x s h l e =
-    let long : 8 ≤ length (drop (16 * k) s) = simp length-drop (omega arith) in
-    let here : ahead (drop (16 * k) s) ≡ word-at (drop (16 * k) s) 0 = rw (le-leb 8 (length (drop (16 * k) s)) long) in
-    e
-    ∙ here
-    ∙ ap (number-after 0) (sym (ap (take 8) (sixteen k (drop (16 * k) s)) ∙ take-take 8 16 (drop (16 * k) s) (omega arith)))
-
-next-read : (m x : ℕ) (s : List ℕ) → x ≡ ahead (take (length s - m) (drop m s)) → x ≡ ahead (drop m s)
-next-read m x s e =
-    let short : length (drop m s) ≤ length s - m = simp length-drop (omega arith) in
-    e ∙ ap ahead (take-all (length s - m) (drop m s) short)
 
 both : (a b : Bool) → (a && b) ≡ true → (a ≡ true) × (b ≡ true)
 both true b h = (refl, h)
@@ -122,7 +97,7 @@ abbrev setup-of : SpeedTable → Setup
 setup-of t = record { table = t }
 
 abbrev Inv-loop : tie.InvT-loop
-Inv-loop core bytes count page₀ beats₀ t period number₀ last₀ startup₀ bus₀ all₀ first₀ j₀ page beats number last startup bus all first j =
+Inv-loop core bytes count page₀ beats₀ t period number₀ last₀ startup₀ bus₀ all₀ words₀ j₀ page beats number last startup bus all words j =
     (j ≤ count)
     × (length page ≡ length page₀)
     × (length beats ≡ length beats₀)
@@ -130,44 +105,50 @@ Inv-loop core bytes count page₀ beats₀ t period number₀ last₀ startup₀
     × Able (setup-of t) (state-of core number last startup bus all) (count - j)
     × (fold (setup-of t) (state-of core number₀ last₀ startup₀ bus₀ all₀) (records-of count bytes) page₀ beats₀
     ≡ fold (setup-of t) (state-of core number last startup bus all) (records-of (count - j) (drop (16 * j) bytes)) page beats)
-    × (first ≡ ahead (drop (16 * j) bytes))
+    × (words ≡ words-ahead (drop (16 * j) bytes))
 
 abbrev μ-loop : tie.MeasureT-loop
-μ-loop core bytes count page₀ beats₀ t period number₀ last₀ startup₀ bus₀ all₀ first₀ j₀ page beats number last startup bus all first j = count - j
+μ-loop core bytes count page₀ beats₀ t period number₀ last₀ startup₀ bus₀ all₀ words₀ j₀ page beats number last startup bus all words j = count - j
 
 -- the place of the next record is a number of 64 bits
 next-fits : (c : tie.In-loop Inv-loop μ-loop) → 16 * (c .before .loop .j + 1) < 2 ^ 64
 next-fits c = omega arith
 
--- ── A record that has been asked what every record is asked ──
+-- ── A record that has been read ──
+
+module _ (c : tie.After-record-from Inv-loop μ-loop) where
+  abbrev part : List ℕ
+  part = take 16 (drop (16 * c .before .before .loop .j) (c .before .before .before .before .before .before .before .before .before .before .before .args .bytes .now))
+
+  read : c .record-from .result ≡ record-of part
+  read = c .record-from .ensures ∙ words-read (c .before .before .loop .j) _ (c .before .before .before .before .before .before .before .before .before .before .before .args .bytes .now) (c .before .before .before .before .before .before .before .before .before .before .before .pre .0) (c .before .loop-test .taken) (c .before .before .loop .inv .6)
+
+  widths : Widths (c .record-from .result)
+  widths = subst (λ (x : Record). Widths x) (sym read) (record-fits part)
+
+  call : Call (c .before .before .before .before .before .before .before .before .before .before .before .args .u .table) (core-of (c .before .before .before .before .before .before .before .before .before .before .before .args .core) (c .before .before .loop .number) (c .before .before .loop .last) (c .before .before .loop .startup) (c .before .before .loop .bus)) (c .before .before .loop .all) (c .record-from .result)
+  call = able-call (c .before .before .loop .inv .4) (c .record-from .result) widths
+
+-- ── One that has been asked what every record is asked ──
 
 module _ (c : tie.After-held Inv-loop μ-loop) where
   abbrev core-at : Core
-  core-at = c .before .before .before .before .before .before .before .before .before .before .before .before .before .before .before .before .before .before .before .before .args .core
+  core-at = c .before .before .before .before .before .before .before .before .before .before .before .before .before .before .before .before .before .before .before .args .core
 
   abbrev setup : Setup
-  setup = setup-of (c .before .before .before .before .before .before .before .before .before .before .before .before .before .before .before .before .before .before .before .before .args .u .table)
+  setup = setup-of (c .before .before .before .before .before .before .before .before .before .before .before .before .before .before .before .before .before .before .before .args .u .table)
 
   abbrev st : State
-  st = state-of core-at (c .before .before .before .before .before .before .before .before .before .before .before .loop .number) (c .before .before .before .before .before .before .before .before .before .before .before .loop .last) (c .before .before .before .before .before .before .before .before .before .before .before .loop .startup) (c .before .before .before .before .before .before .before .before .before .before .before .loop .bus) (c .before .before .before .before .before .before .before .before .before .before .before .loop .all)
+  st = state-of core-at (c .before .before .before .before .before .before .before .before .before .before .loop .number) (c .before .before .before .before .before .before .before .before .before .before .loop .last) (c .before .before .before .before .before .before .before .before .before .before .loop .startup) (c .before .before .before .before .before .before .before .before .before .before .loop .bus) (c .before .before .before .before .before .before .before .before .before .before .loop .all)
 
   abbrev rec : Record
-  rec = c .before .before .before .before .before .before .before .before .record-in .result
+  rec = c .before .before .before .before .before .before .before .before .record-from .result
 
   abbrev clock-at : Clock
   clock-at = c .before .before .before .before .before .before .before .clock-of .result
 
   abbrev command-at : Command
   command-at = c .before .before .command-of .result
-
-  abbrev part : List ℕ
-  part = take (16 * c .before .before .before .before .before .before .before .before .before .before .before .loop .j + 16 - 16 * c .before .before .before .before .before .before .before .before .before .before .before .loop .j) (drop (16 * c .before .before .before .before .before .before .before .before .before .before .before .loop .j) (c .before .before .before .before .before .before .before .before .before .before .before .before .before .before .before .before .before .before .before .before .args .bytes .now))
-
-  widths : Widths rec
-  widths = subst (λ (x : Record). Widths x) (sym (c .before .before .before .before .before .before .before .before .record-in .ensures)) (record-fits part)
-
-  call : Call (setup .table) (st .core) (st .banks) rec
-  call = able-call (c .before .before .before .before .before .before .before .before .before .before .before .loop .inv .4) rec widths
 
   clock-is : clock-at ≡ clock-of (st .core) rec
   clock-is = c .before .before .before .before .before .before .before .clock-of .ensures
@@ -181,7 +162,7 @@ module _ (c : tie.After-held Inv-loop μ-loop) where
   code-is : c .before .code-of .result ≡ code-of command-at
   code-is = c .before .code-of .ensures
 
-  every-taken : first-broken (every-rules (setup .table) (core-at .period) (c .before .before .before .before .before .before .before .before .before .before .before .loop .startup .refreshes) (c .before .before .before .before .before .before .before .before .before .before .before .loop .all) rec clock-at (c .before .before .before .before .before .before .at .result)) ≡ Taken
+  every-taken : first-broken (every-rules (setup .table) (core-at .period) (c .before .before .before .before .before .before .before .before .before .before .loop .startup .refreshes) (c .before .before .before .before .before .before .before .before .before .before .loop .all) rec clock-at (c .before .before .before .before .before .before .at .result)) ≡ Taken
   every-taken = sym (c .before .before .before .before .before .ask-every .ensures) ∙ c .before .before .before .enum-told .given .1
 
   clock-most : clock-at .0 ≤ clock-max
@@ -194,20 +175,20 @@ module _ (c : tie.After-held Inv-loop μ-loop) where
       (sym (hv ∙ ap (λ (x : Core). first-broken (command-rules command-at (setup .table) x (st .banks) rec clock-at (c .before .before .before .before .before .before .at .result))) hx) ∙ hw)
 
   abbrev word-here : ℕ
-  word-here = word-in (c .before .before .before .before .before .before .before .before .before .before .before .loop .startup .register)
+  word-here = word-in (c .before .before .before .before .before .before .before .before .before .before .loop .startup .register)
 
   abbrev end-here : Ps
   end-here = burst-end command-at (setup .table) (core-at .period) word-here clock-at
 
   abbrev moved-bus : Bus
-  moved-bus = bus-after command-at rec clock-at word-here (row-of (bank-at (c .before .before .before .before .before .before .before .before .before .before .before .loop .all) (rec .ba) .status)) (c .before .before .before .before .before .before .before .before .before .before .before .loop .bus)
+  moved-bus = bus-after command-at rec clock-at word-here (row-of (bank-at (c .before .before .before .before .before .before .before .before .before .before .loop .all) (rec .ba) .status)) (c .before .before .before .before .before .before .before .before .before .before .loop .bus)
 
   abbrev moved-banks : List Bank
   moved-banks =
-      commanded command-at (setup .table) (core-at .period) end-here (begun (c .before .before .before .before .before .before .before .before .before .before .before .loop .startup)) rec clock-at (at (core-at .period) clock-at) (c .before .before .before .before .before .before .before .before .before .before .before .loop .all)
+      commanded command-at (setup .table) (core-at .period) end-here (begun (c .before .before .before .before .before .before .before .before .before .before .loop .startup)) rec clock-at (at (core-at .period) clock-at) (c .before .before .before .before .before .before .before .before .before .before .loop .all)
 
-  four-before : length (c .before .before .before .before .before .before .before .before .before .before .before .loop .all) ≡ 4
-  four-before = c .before .before .before .before .before .before .before .before .before .before .before .loop .inv .3
+  four-before : length (c .before .before .before .before .before .before .before .before .before .before .loop .all) ≡ 4
+  four-before = c .before .before .before .before .before .before .before .before .before .before .loop .inv .3
 
 -- the record may stand
 asked-at : (c : tie.Joined2 Inv-loop μ-loop) → ask (setup (c .before .before)) (st (c .before .before)) (rec (c .before .before)) ≡ Taken
@@ -229,8 +210,8 @@ BusAt c = record { write = c .before .before .before .before .before .if3 .bus .
 bus-at : (c : tie.After-after Inv-loop μ-loop) → BusAt c
 bus-at c =
     let a = c .before .before .before .before .before .before .before .before .before in
-    ⊎-elim {C = BusAt c} (λ w. bus-ended (command-at a) (rec a) (clock-at a) _ _ (a .before .before .before .before .before .before .before .before .before .before .before .loop .bus) (c .after .ensures) (w .4 ∙ w .3 .ensures))
-    (λ w. bus-left (command-at a) (rec a) (clock-at a) _ _ (a .before .before .before .before .before .before .before .before .before .before .before .loop .bus) (c .after .ensures) (sym (c .before .before .before .before .before .before .can-end .ensures) ∙ w .0 .left) (w .1))
+    ⊎-elim {C = BusAt c} (λ w. bus-ended (command-at a) (rec a) (clock-at a) _ _ (a .before .before .before .before .before .before .before .before .before .before .loop .bus) (c .after .ensures) (w .4 ∙ w .3 .ensures))
+    (λ w. bus-left (command-at a) (rec a) (clock-at a) _ _ (a .before .before .before .before .before .before .before .before .before .before .loop .bus) (c .after .ensures) (sym (c .before .before .before .before .before .before .can-end .ensures) ∙ w .0 .left) (w .1))
     (c .before .before .before .before .before .if3 .came)
 
 choose : {A : Type 0} (x y : A) {z : A} {b : Bool} → b ≡ true → z ≡ x → z ≡ cond b x y
@@ -243,14 +224,14 @@ refuse x y e h = h ∙ sym (ap (λ (t : Bool). cond t x y) e)
 auto-at : (c : tie.Joined4 Inv-loop μ-loop)
     → c .if4 .all
     ≡ cond (asks-auto (command-at (c .before .before .before .before .before .before)) (rec (c .before .before .before .before .before .before)))
-    (set (c .before .before .before .before .before .before .before .before .before .before .before .before .before .before .before .before .before .loop .all) (rec (c .before .before .before .before .before .before) .ba)
-    (with-status (auto-closed (setup (c .before .before .before .before .before .before) .table) (core-at (c .before .before .before .before .before .before) .period) (end-here (c .before .before .before .before .before .before)) (bank-at (c .before .before .before .before .before .before .before .before .before .before .before .before .before .before .before .before .before .loop .all) (rec (c .before .before .before .before .before .before) .ba) .status))
-    (bank-at (c .before .before .before .before .before .before .before .before .before .before .before .before .before .before .before .before .before .loop .all) (rec (c .before .before .before .before .before .before) .ba))))
-    (c .before .before .before .before .before .before .before .before .before .before .before .before .before .before .before .before .before .loop .all)
+    (set (c .before .before .before .before .before .before .before .before .before .before .before .before .before .before .before .before .loop .all) (rec (c .before .before .before .before .before .before) .ba)
+    (with-status (auto-closed (setup (c .before .before .before .before .before .before) .table) (core-at (c .before .before .before .before .before .before) .period) (end-here (c .before .before .before .before .before .before)) (bank-at (c .before .before .before .before .before .before .before .before .before .before .before .before .before .before .before .before .loop .all) (rec (c .before .before .before .before .before .before) .ba) .status))
+    (bank-at (c .before .before .before .before .before .before .before .before .before .before .before .before .before .before .before .before .loop .all) (rec (c .before .before .before .before .before .before) .ba))))
+    (c .before .before .before .before .before .before .before .before .before .before .before .before .before .before .before .before .loop .all)
 auto-at c =
     ⊎-elim
     (λ w. choose _ _ (sym (c .before .closes-itself .ensures) ∙ w .0 .taken)
-    (w .5 ∙ ap (λ (b : Bank). set (c .before .before .before .before .before .before .before .before .before .before .before .before .before .before .before .before .before .loop .all) (rec (c .before .before .before .before .before .before) .ba) b) (w .3 .ensures)))
+    (w .5 ∙ ap (λ (b : Bank). set (c .before .before .before .before .before .before .before .before .before .before .before .before .before .before .before .before .loop .all) (rec (c .before .before .before .before .before .before) .ba) b) (w .3 .ensures)))
     (λ w. refuse _ _ (sym (c .before .closes-itself .ensures) ∙ w .0 .left) (w .1))
     (c .if4 .came)
 
@@ -266,30 +247,30 @@ active-at c =
 banks-at : (c : tie.Joined6 Inv-loop μ-loop) → c .if6 .all ≡ moved-banks (c .before .before .before .before .before .before .before .before)
 banks-at c =
     let a = c .before .before .before .before .before .before .before .before in
-    in-place (setup a .table) (core-at a .period) (end-here a) (begun (a .before .before .before .before .before .before .before .before .before .before .before .loop .startup)) (rec a) (clock-at a) (at (core-at a .period) (clock-at a)) (a .before .before .before .before .before .before .before .before .before .before .before .loop .all) (four-before a) (widths a .ba)
+    in-place (setup a .table) (core-at a .period) (end-here a) (begun (a .before .before .before .before .before .before .before .before .before .before .loop .startup)) (rec a) (clock-at a) (at (core-at a .period) (clock-at a)) (a .before .before .before .before .before .before .before .before .before .before .loop .all) (four-before a) (widths (a .before .before .before .before .before .before .before .before) .ba)
     (command-at a) (auto-at (c .before .before)) (active-at (c .before))
     (⊎-elim (λ w. choose _ _ (lt-ltb (code-of (command-at a)) 3 (omega (arith, code-is a, w .0 .taken))) (w .4 ∙ w .1 .ensures))
     (λ w. refuse _ _ (le-ltb (code-of (command-at a)) 3 (omega (arith, code-is a, w .0 .left))) (w .2))
     (c .if6 .came))
 
 abbrev StartUpAt : tie.Joined6 Inv-loop μ-loop → Type 0
-StartUpAt c = c .if6 .startup ≡ startup-after (command-at (c .before .before .before .before .before .before .before .before)) (rec (c .before .before .before .before .before .before .before .before)) (clock-at (c .before .before .before .before .before .before .before .before)) (c .before .before .before .before .before .before .before .before .before .before .before .before .before .before .before .before .before .before .before .loop .startup)
+StartUpAt c = c .if6 .startup ≡ startup-after (command-at (c .before .before .before .before .before .before .before .before)) (rec (c .before .before .before .before .before .before .before .before)) (clock-at (c .before .before .before .before .before .before .before .before)) (c .before .before .before .before .before .before .before .before .before .before .before .before .before .before .before .before .before .before .loop .startup)
 
 startup-at : (c : tie.Joined6 Inv-loop μ-loop) → StartUpAt c
 startup-at c =
     let a = c .before .before .before .before .before .before .before .before in
     ⊎-elim {C = StartUpAt c} (λ w. w .3 ∙ w .2 .ensures)
-    (λ w. w .1 ∙ startup-kept (command-at a) (omega (arith, code-is a, w .0 .left)) (rec a) (clock-at a) (c .before .before .before .before .before .before .before .before .before .before .before .before .before .before .before .before .before .before .before .loop .startup))
+    (λ w. w .1 ∙ startup-kept (command-at a) (omega (arith, code-is a, w .0 .left)) (rec a) (clock-at a) (c .before .before .before .before .before .before .before .before .before .before .before .before .before .before .before .before .before .before .loop .startup))
     (c .if6 .came)
 
 four-at : (c : tie.Joined6 Inv-loop μ-loop) → length (c .if6 .all) ≡ 4
 four-at c = ap length (banks-at c) ∙ commanded-length _ _ _ _ _ _ _ _ _ ∙ four-before (c .before .before .before .before .before .before .before .before)
 
 -- what a command below ACTIVE finds is as it was
-before-at : (c : tie.Joined5 Inv-loop μ-loop) → c .before .before .before .before .before .before .before .before .code-of .result < 3 → c .if5 .all ≡ c .before .before .before .before .before .before .before .before .before .before .before .before .before .before .before .before .before .before .loop .all
+before-at : (c : tie.Joined5 Inv-loop μ-loop) → c .before .before .before .before .before .before .before .before .code-of .result < 3 → c .if5 .all ≡ c .before .before .before .before .before .before .before .before .before .before .before .before .before .before .before .before .before .loop .all
 before-at c h =
     let a = c .before .before .before .before .before .before .before in
-    as-it-was (setup a .table) (core-at a .period) (end-here a) (begun (a .before .before .before .before .before .before .before .before .before .before .before .loop .startup)) (rec a) (clock-at a) (at (core-at a .period) (clock-at a)) (a .before .before .before .before .before .before .before .before .before .before .before .loop .all) (four-before a) (widths a .ba)
+    as-it-was (setup a .table) (core-at a .period) (end-here a) (begun (a .before .before .before .before .before .before .before .before .before .before .loop .startup)) (rec a) (clock-at a) (at (core-at a .period) (clock-at a)) (a .before .before .before .before .before .before .before .before .before .before .loop .all) (four-before a) (widths (a .before .before .before .before .before .before .before .before) .ba)
     (command-at a) (subst (λ (m : ℕ). m < 3) (code-is a) h) (auto-at (c .before)) (active-at c)
 
 marks-at : (c : tie.Joined7 Inv-loop μ-loop) → c .if7 .all ≡ mark-banks (c .before .before .beat-on .result) (clock-at (c .before .before .before .before .before .before .before .before .before .before .before .before .before .before)) (c .before .before .before .before .before .before .if6 .all)
@@ -312,15 +293,15 @@ stored-small c t e = subst (λ (m : ℕ). m < 4) (sym e) (bank-small (c .before 
 -- the state that the turn leaves, and its beat
 left-at : (c : tie.Joined7 Inv-loop μ-loop)
     → Settled (setup (c .before .before .before .before .before .before .before .before .before .before .before .before .before .before)) (st (c .before .before .before .before .before .before .before .before .before .before .before .before .before .before)) (rec (c .before .before .before .before .before .before .before .before .before .before .before .before .before .before))
-    (state-of (core-at (c .before .before .before .before .before .before .before .before .before .before .before .before .before .before)) (c .before .before .before .before .before .before .before .before .before .before .before .before .before .before .before .before .before .before .before .before .before .before .before .before .before .loop .number + 1) (On (clock-at (c .before .before .before .before .before .before .before .before .before .before .before .before .before .before))) (c .before .before .before .before .before .before .if6 .startup)
+    (state-of (core-at (c .before .before .before .before .before .before .before .before .before .before .before .before .before .before)) (c .before .before .before .before .before .before .before .before .before .before .before .before .before .before .before .before .before .before .before .before .before .before .before .before .loop .number + 1) (On (clock-at (c .before .before .before .before .before .before .before .before .before .before .before .before .before .before))) (c .before .before .before .before .before .before .if6 .startup)
     (record { write = c .before .before .before .before .before .before .before .before .before .before .if3 .bus .write; reads = c .before .before .before .before .before .before .before .before .before .before .if3 .bus .reads; masks = c .before .before .before .before .before .after .result }) (c .if7 .all))
     (c .before .before .beat-on .result)
 left-at c =
     let a = c .before .before .before .before .before .before .before .before .before .before .before .before .before .before in
     settled (setup a) (st a) (rec a) (command-is a) (clock-is a) (bus-at (c .before .before .before .before .before)) (startup-at (c .before .before .before .before .before .before)) (c .before .before .beat-on .ensures) (banks-at (c .before .before .before .before .before .before)) (marks-at c)
 
-first-word-requires : tie.Need-first-word-requires Inv-loop μ-loop
-first-word-requires c κs = search needs
+words-of-requires : tie.Need-words-of-requires Inv-loop μ-loop
+words-of-requires c κs = search needs
 
 loop-holds : tie.Need-loop-holds Inv-loop μ-loop
 loop-holds c =
@@ -332,35 +313,20 @@ loop-holds c =
       c .before .before .before .before .before .before .before .before .good .1 .1 .0 .1 .0 .1,
       subst (λ (m : ℕ). Able (a .u) (whole (a .core) (a .banks)) m) e (c .before .before .before .before .before .before .before .before .pre .1),
       ap (λ (m : ℕ). fold (a .u) (whole (a .core) (a .banks)) (records-of m (a .bytes .now)) (a .page .now) (a .beats .now)) e,
-      c .first-word .ensures,
+      c .words-of .ensures,
     )
 
-mul-at : tie.Need-mul-at Inv-loop μ-loop
-mul-at c = omega arith
-
-add-record-in : tie.Need-add-record-in Inv-loop μ-loop
-add-record-in c = omega arith
-
-sub-record-in : tie.Need-sub-record-in Inv-loop μ-loop
-sub-record-in c = omega arith
-
-part-record-in-start : tie.Need-part-record-in-start Inv-loop μ-loop
-part-record-in-start c = omega arith
-
-part-record-in-end : tie.Need-part-record-in-end Inv-loop μ-loop
-part-record-in-end c = omega arith
-
-record-in-requires : tie.Need-record-in-requires Inv-loop μ-loop
-record-in-requires c κs = (part-length (c .before .before .loop .j) _ _ (c .before .before .before .before .before .before .before .before .before .before .before .pre .0) (c .before .loop-test .taken), first-read (c .before .before .loop .j) _ _ _ (c .before .before .before .before .before .before .before .before .before .before .before .pre .0) (c .before .loop-test .taken) (c .before .before .loop .inv .6))
+record-from-requires : tie.Need-record-from-requires Inv-loop μ-loop
+record-from-requires c κs = search needs
 
 clock-of-requires : tie.Need-clock-of-requires Inv-loop μ-loop
-clock-of-requires c κs = c .before .before .before .loop .inv .4 .state .core .last
+clock-of-requires c κs = c .before .before .loop .inv .4 .state .core .last
 
 at-requires : tie.Need-at-requires Inv-loop μ-loop
-at-requires c κs = clock-reach (c .before .before .before .before .loop .last) (c .before .record-in .result .skipped) (c .before .before .before .before .loop .inv .4 .state .core .last) ((subst (λ (x : Record). Widths x) (sym (c .before .record-in .ensures)) (record-fits (take (16 * c .before .before .before .before .loop .j + 16 - 16 * c .before .before .before .before .loop .j) (drop (16 * c .before .before .before .before .loop .j) (c .before .before .before .before .before .before .before .before .before .before .before .before .before .args .bytes .now))))) .skipped) (c .before .before .before .before .loop .inv .4 .period) (c .clock-of .ensures)
+at-requires c κs = clock-reach (c .before .before .before .loop .last) (c .before .record-from .result .skipped) (c .before .before .before .loop .inv .4 .state .core .last) (widths (c .before) .skipped) (c .before .before .before .loop .inv .4 .period) (c .clock-of .ensures)
 
 ask-every-requires : tie.Need-ask-every-requires Inv-loop μ-loop
-ask-every-requires c κs = let a = able-call (c .before .before .before .before .before .loop .inv .4) (c .before .before .record-in .result) (subst (λ (x : Record). Widths x) (sym (c .before .before .record-in .ensures)) (record-fits (take (16 * c .before .before .before .before .before .loop .j + 16 - 16 * c .before .before .before .before .before .loop .j) (drop (16 * c .before .before .before .before .before .loop .j) (c .before .before .before .before .before .before .before .before .before .before .before .before .before .before .args .bytes .now))))) in (a .period, a .core .startup .refreshed, a .banks)
+ask-every-requires c κs = let a = call (c .before .before) in (a .period, a .core .startup .refreshed, a .banks)
 
 enum-told : tie.Need-enum-told Inv-loop μ-loop
 enum-told c = search needs
@@ -372,18 +338,18 @@ ended-requires : tie.Need-ended-requires Inv-loop μ-loop
 ended-requires c κs = search needs
 
 same-length : tie.Need-same-length Inv-loop μ-loop
-same-length c = c .before .before .before .before .before .before .before .before .before .loop .inv .1
+same-length c = c .before .before .before .before .before .before .before .before .loop .inv .1
 
 same-length-2 : tie.Need-same-length-2 Inv-loop μ-loop
-same-length-2 c = c .before .before .before .before .before .before .before .before .before .loop .inv .2
+same-length-2 c = c .before .before .before .before .before .before .before .before .loop .inv .2
 
 returns : tie.Need-returns Inv-loop μ-loop
 returns c =
-    let l = c .before .before .before .before .before .before .before .before .before .loop in
-    let a = c .before .before .before .before .before .before .before .before .before .before .before .before .before .before .before .before .before .before .args in
+    let l = c .before .before .before .before .before .before .before .before .loop in
+    let a = c .before .before .before .before .before .before .before .before .before .before .before .before .before .before .before .before .before .args in
     let s = state-of (a .core) (l .number) (l .last) (l .startup) (l .bus) (l .all) in
     rw (c .ended .ensures, c .before .enum-told2 .given .1)
-    (sym (l .inv .5 ∙ stops _ _ (l .j) (c .before .before .before .before .before .before .before .before .loop-test .taken) (setup-of (a .u .table)) s _ _ _ _ (sixteen (l .j) _) (c .before .before .before .before .before .before .record-in .ensures) _ _ (every-refused (setup-of (a .u .table)) s (c .before .before .before .before .before .before .record-in .result) refl (c .before .before .before .before .before .clock-of .ensures) (c .before .before .before .before .at .ensures ∙ ap (at (a .core .period)) (c .before .before .before .before .before .clock-of .ensures)) (sym (c .before .before .before .ask-every .ensures) ∙ c .before .enum-told2 .given .1))))
+    (sym (l .inv .5 ∙ stops _ _ (l .j) (c .before .before .before .before .before .before .before .loop-test .taken) (setup-of (a .u .table)) s _ _ _ _ refl (read (c .before .before .before .before .before .before)) _ _ (every-refused (setup-of (a .u .table)) s (c .before .before .before .before .before .before .record-from .result) refl (c .before .before .before .before .before .clock-of .ensures) (c .before .before .before .before .at .ensures ∙ ap (at (a .core .period)) (c .before .before .before .before .before .clock-of .ensures)) (sym (c .before .before .before .ask-every .ensures) ∙ c .before .enum-told2 .given .1))))
 
 command-of-requires : tie.Need-command-of-requires Inv-loop μ-loop
 command-of-requires c κs = search needs
@@ -398,13 +364,13 @@ mul-own : tie.Need-mul-own Inv-loop μ-loop
 mul-own c = search needs
 
 array-copy-out-own : tie.Need-array-copy-out-own Inv-loop μ-loop
-array-copy-out-own c = widths (c .before .before) .ba
+array-copy-out-own c = widths (c .before .before .before .before .before .before .before .before .before .before) .ba
 
 core-of-requires : tie.Need-core-of-requires Inv-loop μ-loop
 core-of-requires c κs = search needs
 
 ask-banks-requires : tie.Need-ask-banks-requires Inv-loop μ-loop
-ask-banks-requires c κs = (subst (λ (x : Core). Call (setup (c .before .before .before .before) .table) x (st (c .before .before .before .before) .banks) (rec (c .before .before .before .before))) (sym (c .core-of .ensures)) (call (c .before .before .before .before)), refl, omega (arith, code-is (c .before .before .before .before), c .before .before .before .if1 .taken))
+ask-banks-requires c κs = (subst (λ (x : Core). Call (setup (c .before .before .before .before) .table) x (st (c .before .before .before .before) .banks) (rec (c .before .before .before .before))) (sym (c .core-of .ensures)) (call (c .before .before .before .before .before .before .before .before .before .before .before .before)), refl, omega (arith, code-is (c .before .before .before .before), c .before .before .before .if1 .taken))
 
 enum-told-3 : tie.Need-enum-told-3 Inv-loop μ-loop
 enum-told-3 c = search needs
@@ -416,18 +382,18 @@ ended-requires-2 : tie.Need-ended-requires-2 Inv-loop μ-loop
 ended-requires-2 c κs = search needs
 
 same-length-3 : tie.Need-same-length-3 Inv-loop μ-loop
-same-length-3 c = c .before .before .before .before .before .before .before .before .before .before .before .before .before .before .before .before .before .before .before .loop .inv .1
+same-length-3 c = c .before .before .before .before .before .before .before .before .before .before .before .before .before .before .before .before .before .before .loop .inv .1
 
 same-length-4 : tie.Need-same-length-4 Inv-loop μ-loop
-same-length-4 c = c .before .before .before .before .before .before .before .before .before .before .before .before .before .before .before .before .before .before .before .loop .inv .2
+same-length-4 c = c .before .before .before .before .before .before .before .before .before .before .before .before .before .before .before .before .before .before .loop .inv .2
 
 returns-2 : tie.Need-returns-2 Inv-loop μ-loop
 returns-2 c =
-    let l = c .before .before .before .before .before .before .before .before .before .before .before .before .before .before .before .before .before .before .before .loop in
-    let a = c .before .before .before .before .before .before .before .before .before .before .before .before .before .before .before .before .before .before .before .before .before .before .before .before .before .before .before .before .args in
+    let l = c .before .before .before .before .before .before .before .before .before .before .before .before .before .before .before .before .before .before .loop in
+    let a = c .before .before .before .before .before .before .before .before .before .before .before .before .before .before .before .before .before .before .before .before .before .before .before .before .before .before .before .args in
     let s = state-of (a .core) (l .number) (l .last) (l .startup) (l .bus) (l .all) in
     rw (c .ended2 .ensures, c .before .enum-told4 .given .1)
-    (sym (l .inv .5 ∙ stops _ _ (l .j) (c .before .before .before .before .before .before .before .before .before .before .before .before .before .before .before .before .before .before .loop-test .taken) (setup-of (a .u .table)) s _ _ _ _ (sixteen (l .j) _) (c .before .before .before .before .before .before .before .before .before .before .before .before .before .before .before .before .record-in .ensures) _ _ (decided (c .before .before .before .before .before .before .before .before) (omega (arith, code-is (c .before .before .before .before .before .before .before .before), c .before .before .before .before .before .before .before .if1 .taken)) (c .before .before .before .before .core-of .ensures) (c .before .before .before .ask-banks .ensures) (c .before .enum-told4 .given .1))))
+    (sym (l .inv .5 ∙ stops _ _ (l .j) (c .before .before .before .before .before .before .before .before .before .before .before .before .before .before .before .before .before .loop-test .taken) (setup-of (a .u .table)) s _ _ _ _ refl (read (c .before .before .before .before .before .before .before .before .before .before .before .before .before .before .before .before)) _ _ (decided (c .before .before .before .before .before .before .before .before) (omega (arith, code-is (c .before .before .before .before .before .before .before .before), c .before .before .before .before .before .before .before .if1 .taken)) (c .before .before .before .before .core-of .ensures) (c .before .before .before .ask-banks .ensures) (c .before .enum-told4 .given .1))))
 
 cast-own-2 : tie.Need-cast-own-2 Inv-loop μ-loop
 cast-own-2 c = search needs
@@ -436,13 +402,13 @@ mul-own-2 : tie.Need-mul-own-2 Inv-loop μ-loop
 mul-own-2 c = search needs
 
 array-copy-out-own-2 : tie.Need-array-copy-out-own-2 Inv-loop μ-loop
-array-copy-out-own-2 c = widths (c .before .before .before) .ba
+array-copy-out-own-2 c = widths (c .before .before .before .before .before .before .before .before .before .before .before) .ba
 
 core-of-requires-2 : tie.Need-core-of-requires-2 Inv-loop μ-loop
 core-of-requires-2 c κs = search needs
 
 ask-burst-requires : tie.Need-ask-burst-requires Inv-loop μ-loop
-ask-burst-requires c κs = let b = between (c .before .before .before .before .before .before .code-of .result) (c .before .before .before .if2 .taken) in (subst (λ (x : Core). Call (setup (c .before .before .before .before .before) .table) x (st (c .before .before .before .before .before) .banks) (rec (c .before .before .before .before .before))) (sym (c .core-of2 .ensures)) (call (c .before .before .before .before .before)), refl, omega (arith, code-is (c .before .before .before .before .before), b .0), omega (arith, code-is (c .before .before .before .before .before), b .1), clock-most (c .before .before .before .before .before))
+ask-burst-requires c κs = let b = between (c .before .before .before .before .before .before .code-of .result) (c .before .before .before .if2 .taken) in (subst (λ (x : Core). Call (setup (c .before .before .before .before .before) .table) x (st (c .before .before .before .before .before) .banks) (rec (c .before .before .before .before .before))) (sym (c .core-of2 .ensures)) (call (c .before .before .before .before .before .before .before .before .before .before .before .before .before)), refl, omega (arith, code-is (c .before .before .before .before .before), b .0), omega (arith, code-is (c .before .before .before .before .before), b .1), clock-most (c .before .before .before .before .before))
 
 enum-told-5 : tie.Need-enum-told-5 Inv-loop μ-loop
 enum-told-5 c = search needs
@@ -454,18 +420,18 @@ ended-requires-3 : tie.Need-ended-requires-3 Inv-loop μ-loop
 ended-requires-3 c κs = search needs
 
 same-length-5 : tie.Need-same-length-5 Inv-loop μ-loop
-same-length-5 c = c .before .before .before .before .before .before .before .before .before .before .before .before .before .before .before .before .before .before .before .before .loop .inv .1
+same-length-5 c = c .before .before .before .before .before .before .before .before .before .before .before .before .before .before .before .before .before .before .before .loop .inv .1
 
 same-length-6 : tie.Need-same-length-6 Inv-loop μ-loop
-same-length-6 c = c .before .before .before .before .before .before .before .before .before .before .before .before .before .before .before .before .before .before .before .before .loop .inv .2
+same-length-6 c = c .before .before .before .before .before .before .before .before .before .before .before .before .before .before .before .before .before .before .before .loop .inv .2
 
 returns-3 : tie.Need-returns-3 Inv-loop μ-loop
 returns-3 c =
-    let l = c .before .before .before .before .before .before .before .before .before .before .before .before .before .before .before .before .before .before .before .before .loop in
-    let a = c .before .before .before .before .before .before .before .before .before .before .before .before .before .before .before .before .before .before .before .before .before .before .before .before .before .before .before .before .before .args in
+    let l = c .before .before .before .before .before .before .before .before .before .before .before .before .before .before .before .before .before .before .before .loop in
+    let a = c .before .before .before .before .before .before .before .before .before .before .before .before .before .before .before .before .before .before .before .before .before .before .before .before .before .before .before .before .args in
     let s = state-of (a .core) (l .number) (l .last) (l .startup) (l .bus) (l .all) in
     rw (c .ended3 .ensures, c .before .enum-told6 .given .1)
-    (sym (l .inv .5 ∙ stops _ _ (l .j) (c .before .before .before .before .before .before .before .before .before .before .before .before .before .before .before .before .before .before .before .loop-test .taken) (setup-of (a .u .table)) s _ _ _ _ (sixteen (l .j) _) (c .before .before .before .before .before .before .before .before .before .before .before .before .before .before .before .before .before .record-in .ensures) _ _ (decided (c .before .before .before .before .before .before .before .before .before) (omega (arith, code-is (c .before .before .before .before .before .before .before .before .before), between (c .before .before .before .before .before .before .before .before .before .before .code-of .result) (c .before .before .before .before .before .before .before .if2 .taken) .1)) (c .before .before .before .before .core-of2 .ensures) (c .before .before .before .ask-burst .ensures) (c .before .enum-told6 .given .1))))
+    (sym (l .inv .5 ∙ stops _ _ (l .j) (c .before .before .before .before .before .before .before .before .before .before .before .before .before .before .before .before .before .before .loop-test .taken) (setup-of (a .u .table)) s _ _ _ _ refl (read (c .before .before .before .before .before .before .before .before .before .before .before .before .before .before .before .before .before)) _ _ (decided (c .before .before .before .before .before .before .before .before .before) (omega (arith, code-is (c .before .before .before .before .before .before .before .before .before), between (c .before .before .before .before .before .before .before .before .before .before .code-of .result) (c .before .before .before .before .before .before .before .if2 .taken) .1)) (c .before .before .before .before .core-of2 .ensures) (c .before .before .before .ask-burst .ensures) (c .before .enum-told6 .given .1))))
 
 can-end-requires : tie.Need-can-end-requires Inv-loop μ-loop
 can-end-requires c κs = search needs
@@ -477,7 +443,7 @@ mul-own-3 : tie.Need-mul-own-3 Inv-loop μ-loop
 mul-own-3 c = search needs
 
 array-copy-out-own-3 : tie.Need-array-copy-out-own-3 Inv-loop μ-loop
-array-copy-out-own-3 c = widths (c .before .before .before .before .before) .ba
+array-copy-out-own-3 c = widths (c .before .before .before .before .before .before .before .before .before .before .before .before .before) .ba
 
 bus-moved-requires : tie.Need-bus-moved-requires Inv-loop μ-loop
 bus-moved-requires c κs = search needs
@@ -492,10 +458,10 @@ mul-own-4 : tie.Need-mul-own-4 Inv-loop μ-loop
 mul-own-4 c = search needs
 
 array-copy-out-own-4 : tie.Need-array-copy-out-own-4 Inv-loop μ-loop
-array-copy-out-own-4 c = widths (c .before .before .before .before .before .before .before) .ba
+array-copy-out-own-4 c = widths (c .before .before .before .before .before .before .before .before .before .before .before .before .before .before .before) .ba
 
 self-closed-requires : tie.Need-self-closed-requires Inv-loop μ-loop
-self-closed-requires c κs = let a = c .before .before .before .before .before .before .before .before in (call a .table, call a .period, call a .banks .each (rec a .ba), clock-most a)
+self-closed-requires c κs = let a = c .before .before .before .before .before .before .before .before in (call (a .before .before .before .before .before .before .before .before) .table, call (a .before .before .before .before .before .before .before .before) .period, call (a .before .before .before .before .before .before .before .before) .banks .each (rec a .ba), clock-most a)
 
 cast-all : tie.Need-cast-all Inv-loop μ-loop
 cast-all c = search needs
@@ -504,7 +470,7 @@ mul-all : tie.Need-mul-all Inv-loop μ-loop
 mul-all c = search needs
 
 array-set-from-all : tie.Need-array-set-from-all Inv-loop μ-loop
-array-set-from-all c = widths (c .before .before .before .before .before .before .before .before .before .before) .ba
+array-set-from-all c = widths (c .before .before .before .before .before .before .before .before .before .before .before .before .before .before .before .before .before .before) .ba
 
 activated-requires : tie.Need-activated-requires Inv-loop μ-loop
 activated-requires c κs = search needs
@@ -516,10 +482,10 @@ mul-all-2 : tie.Need-mul-all-2 Inv-loop μ-loop
 mul-all-2 c = search needs
 
 array-set-from-all-2 : tie.Need-array-set-from-all-2 Inv-loop μ-loop
-array-set-from-all-2 c = widths (c .before .before .before .before .before .before .before .before .before) .ba
+array-set-from-all-2 c = widths (c .before .before .before .before .before .before .before .before .before .before .before .before .before .before .before .before .before) .ba
 
 banks-moved-requires : tie.Need-banks-moved-requires Inv-loop μ-loop
-banks-moved-requires c κs = let a = c .before .before .before .before .before .before .before .before in (call a .table, call a .period, subst (λ (l : List Bank). BanksFit l) (sym (before-at (c .before) (c .if6 .taken))) (call a .banks), clock-most a)
+banks-moved-requires c κs = let a = c .before .before .before .before .before .before .before .before in (call (a .before .before .before .before .before .before .before .before) .table, call (a .before .before .before .before .before .before .before .before) .period, subst (λ (l : List Bank). BanksFit l) (sym (before-at (c .before) (c .if6 .taken))) (call (a .before .before .before .before .before .before .before .before) .banks), clock-most a)
 
 startup-after-requires : tie.Need-startup-after-requires Inv-loop μ-loop
 startup-after-requires c κs = search needs
@@ -561,48 +527,48 @@ stored-requires : tie.Need-stored-requires Inv-loop μ-loop
 stored-requires c κs = search needs
 
 report-requires : tie.Need-report-requires Inv-loop μ-loop
-report-requires c κs = omega (arith, c .before .before .before .before .before .before .before .before .before .before .before .before .before .before .before .before .before .before .before .before .before .before .before .before .before .before .before .before .before .before .loop .inv .4 .room)
+report-requires c κs = omega (arith, c .before .before .before .before .before .before .before .before .before .before .before .before .before .before .before .before .before .before .before .before .before .before .before .before .before .before .before .before .before .loop .inv .4 .room)
 
 add-number : tie.Need-add-number Inv-loop μ-loop
-add-number c = record { fits = omega (arith, c .before .before .before .before .before .before .before .before .before .before .before .before .before .before .before .before .before .before .before .before .before .before .before .before .before .before .before .before .before .before .before .before .before .loop .inv .4 .room) }
+add-number c = record { fits = omega (arith, c .before .before .before .before .before .before .before .before .before .before .before .before .before .before .before .before .before .before .before .before .before .before .before .before .before .before .before .before .before .before .before .before .loop .inv .4 .room) }
 
 add-j : tie.Need-add-j Inv-loop μ-loop
-add-j c = record { fits = omega (arith, c .before .before .before .before .before .before .before .before .before .before .before .before .before .before .before .before .before .before .before .before .before .before .before .before .before .before .before .before .before .before .before .before .loop-test .taken, c .before .before .before .before .before .before .before .before .before .before .before .before .before .before .before .before .before .before .before .before .before .before .before .before .before .before .before .before .before .before .before .before .before .before .before .before .before .before .before .before .before .before .fits .count .fits) }
+add-j c = record { fits = omega (arith, c .before .before .before .before .before .before .before .before .before .before .before .before .before .before .before .before .before .before .before .before .before .before .before .before .before .before .before .before .before .before .before .loop-test .taken, c .before .before .before .before .before .before .before .before .before .before .before .before .before .before .before .before .before .before .before .before .before .before .before .before .before .before .before .before .before .before .before .before .before .before .before .before .before .before .before .before .before .fits .count .fits) }
 
 mul-next : tie.Need-mul-next Inv-loop μ-loop
-mul-next c = record { fits = omega (arith, c .before .before .before .before .before .before .before .before .before .before .before .before .before .before .before .before .before .before .before .before .before .before .before .before .before .before .before .before .before .before .before .before .loop-test .taken, c .before .before .before .before .before .before .before .before .before .before .before .before .before .before .before .before .before .before .before .before .before .before .before .before .before .before .before .before .before .before .before .before .before .before .before .before .before .before .before .before .before .before .pre .0, next-fits (c .before .before .before .before .before .before .before .before .before .before .before .before .before .before .before .before .before .before .before .before .before .before .before .before .before .before .before .before .before .before .before .before)) }
+mul-next c = record { fits = omega (arith, c .before .before .before .before .before .before .before .before .before .before .before .before .before .before .before .before .before .before .before .before .before .before .before .before .before .before .before .before .before .before .before .loop-test .taken, c .before .before .before .before .before .before .before .before .before .before .before .before .before .before .before .before .before .before .before .before .before .before .before .before .before .before .before .before .before .before .before .before .before .before .before .before .before .before .before .before .before .pre .0, next-fits (c .before .before .before .before .before .before .before .before .before .before .before .before .before .before .before .before .before .before .before .before .before .before .before .before .before .before .before .before .before .before .before)) }
 
-sub-first-word : tie.Need-sub-first-word Inv-loop μ-loop
-sub-first-word c = omega (arith, c .before .before .before .before .before .before .before .before .before .before .before .before .before .before .before .before .before .before .before .before .before .before .before .before .before .before .before .before .before .before .before .before .loop-test .taken, c .before .before .before .before .before .before .before .before .before .before .before .before .before .before .before .before .before .before .before .before .before .before .before .before .before .before .before .before .before .before .before .before .before .before .before .before .before .before .before .before .before .before .pre .0)
+sub-words-of : tie.Need-sub-words-of Inv-loop μ-loop
+sub-words-of c = omega (arith, c .before .before .before .before .before .before .before .before .before .before .before .before .before .before .before .before .before .before .before .before .before .before .before .before .before .before .before .before .before .before .before .loop-test .taken, c .before .before .before .before .before .before .before .before .before .before .before .before .before .before .before .before .before .before .before .before .before .before .before .before .before .before .before .before .before .before .before .before .before .before .before .before .before .before .before .before .before .pre .0)
 
-part-first-word-start : tie.Need-part-first-word-start Inv-loop μ-loop
-part-first-word-start c = omega (arith, c .before .before .before .before .before .before .before .before .before .before .before .before .before .before .before .before .before .before .before .before .before .before .before .before .before .before .before .before .before .before .before .before .loop-test .taken, c .before .before .before .before .before .before .before .before .before .before .before .before .before .before .before .before .before .before .before .before .before .before .before .before .before .before .before .before .before .before .before .before .before .before .before .before .before .before .before .before .before .before .pre .0)
+part-words-of-start : tie.Need-part-words-of-start Inv-loop μ-loop
+part-words-of-start c = omega (arith, c .before .before .before .before .before .before .before .before .before .before .before .before .before .before .before .before .before .before .before .before .before .before .before .before .before .before .before .before .before .before .before .loop-test .taken, c .before .before .before .before .before .before .before .before .before .before .before .before .before .before .before .before .before .before .before .before .before .before .before .before .before .before .before .before .before .before .before .before .before .before .before .before .before .before .before .before .before .pre .0)
 
-part-first-word-end : tie.Need-part-first-word-end Inv-loop μ-loop
-part-first-word-end c = omega (arith, c .before .before .before .before .before .before .before .before .before .before .before .before .before .before .before .before .before .before .before .before .before .before .before .before .before .before .before .before .before .before .before .before .loop-test .taken, c .before .before .before .before .before .before .before .before .before .before .before .before .before .before .before .before .before .before .before .before .before .before .before .before .before .before .before .before .before .before .before .before .before .before .before .before .before .before .before .before .before .before .pre .0)
+part-words-of-end : tie.Need-part-words-of-end Inv-loop μ-loop
+part-words-of-end c = omega (arith, c .before .before .before .before .before .before .before .before .before .before .before .before .before .before .before .before .before .before .before .before .before .before .before .before .before .before .before .before .before .before .before .loop-test .taken, c .before .before .before .before .before .before .before .before .before .before .before .before .before .before .before .before .before .before .before .before .before .before .before .before .before .before .before .before .before .before .before .before .before .before .before .before .before .before .before .before .before .pre .0)
 
-first-word-requires-2 : tie.Need-first-word-requires-2 Inv-loop μ-loop
-first-word-requires-2 c κs = search needs
+words-of-requires-2 : tie.Need-words-of-requires-2 Inv-loop μ-loop
+words-of-requires-2 c κs = search needs
 
 loop-less : tie.Need-loop-less Inv-loop μ-loop
-loop-less c = omega (arith, c .before .before .before .before .before .before .before .before .before .before .before .before .before .before .before .before .before .before .before .before .before .before .before .before .before .before .before .before .before .before .before .before .before .before .loop-test .taken)
+loop-less c = omega (arith, c .before .before .before .before .before .before .before .before .before .before .before .before .before .before .before .before .before .before .before .before .before .before .before .before .before .before .before .before .before .before .before .before .before .loop-test .taken)
 
 loop-again : tie.Need-loop-again Inv-loop μ-loop
 loop-again c =
     let d = c .before .before .before .before .before .before .before .before .before .before in
     let a = c .before .before .before .before .before .before .before .before .before .before .before .before .before .before .before .before .before .before .before .before .before .before .before .before in
-    let l = c .before .before .before .before .before .before .before .before .before .before .before .before .before .before .before .before .before .before .before .before .before .before .before .before .before .before .before .before .before .before .before .before .before .before .before .loop in
-    let lt = c .before .before .before .before .before .before .before .before .before .before .before .before .before .before .before .before .before .before .before .before .before .before .before .before .before .before .before .before .before .before .before .before .before .before .loop-test .taken in
+    let l = c .before .before .before .before .before .before .before .before .before .before .before .before .before .before .before .before .before .before .before .before .before .before .before .before .before .before .before .before .before .before .before .before .before .before .loop in
+    let lt = c .before .before .before .before .before .before .before .before .before .before .before .before .before .before .before .before .before .before .before .before .before .before .before .before .before .before .before .before .before .before .before .before .before .loop-test .taken in
     let p = asked-at (c .before .before .before .before .before .before .before .before .before .before .before .before .before .before .before .before .before .before .before .before .before .before) in
     let x = left-at d in (
       omega (arith, lt),
       c .before .before .before .before .before .before .before .before .stored .kept .1 .1 .1 .1 .0 ∙ l .inv .1,
       c .before .before .before .before .report .kept .0 ∙ l .inv .2,
       ap length (marks-at d) ∙ mark-length _ _ _ ∙ four-at (c .before .before .before .before .before .before .before .before .before .before .before .before .before .before .before .before),
-      stays-able _ _ (l .j) lt (setup a) (st a) (rec a) (l .page) (l .beats) (part a) (sixteen (l .j) _) (c .before .before .before .before .before .before .before .before .before .before .before .before .before .before .before .before .before .before .before .before .before .before .before .before .before .before .before .before .before .before .before .before .record-in .ensures) p x (l .inv .4),
+      stays-able _ _ (l .j) lt (setup a) (st a) (rec a) (l .page) (l .beats) (part (a .before .before .before .before .before .before .before .before)) refl (read (a .before .before .before .before .before .before .before .before)) p x (l .inv .4),
       l .inv .5
-          ∙ goes-on _ _ (l .j) lt (setup a) (st a) (rec a) (l .page) (l .beats) (part a) (sixteen (l .j) _) (c .before .before .before .before .before .before .before .before .before .before .before .before .before .before .before .before .before .before .before .before .before .before .before .before .before .before .before .before .before .before .before .before .record-in .ensures) p x (clock-is a) (c .before .before .before .before .before .before .before .before .stored .ensures) (c .before .before .before .before .report .ensures),
-      next-read (16 * (l .j + 1)) _ (c .before .before .before .before .before .before .before .before .before .before .before .before .before .before .before .before .before .before .before .before .before .before .before .before .before .before .before .before .before .before .before .before .before .before .before .before .before .before .before .before .before .before .before .before .args .bytes .now) (c .first-word2 .ensures),
+          ∙ goes-on _ _ (l .j) lt (setup a) (st a) (rec a) (l .page) (l .beats) (part (a .before .before .before .before .before .before .before .before)) refl (read (a .before .before .before .before .before .before .before .before)) p x (clock-is a) (c .before .before .before .before .before .before .before .before .stored .ensures) (c .before .before .before .before .report .ensures),
+      next-read (16 * (l .j + 1)) (c .before .before .before .before .before .before .before .before .before .before .before .before .before .before .before .before .before .before .before .before .before .before .before .before .before .before .before .before .before .before .before .before .before .before .before .before .before .before .before .before .before .before .before .args .bytes .now) (c .words-of2 .ensures),
     )
 
 ended-requires-4 : tie.Need-ended-requires-4 Inv-loop μ-loop
@@ -629,14 +595,9 @@ fold-spec =
     (tie.spec
     Inv-loop
     μ-loop
-    first-word-requires
+    words-of-requires
     loop-holds
-    mul-at
-    add-record-in
-    sub-record-in
-    part-record-in-start
-    part-record-in-end
-    record-in-requires
+    record-from-requires
     clock-of-requires
     at-requires
     ask-every-requires
@@ -705,10 +666,10 @@ fold-spec =
     add-number
     add-j
     mul-next
-    sub-first-word
-    part-first-word-start
-    part-first-word-end
-    first-word-requires-2
+    sub-words-of
+    part-words-of-start
+    part-words-of-end
+    words-of-requires-2
     loop-less
     loop-again
     ended-requires-4
