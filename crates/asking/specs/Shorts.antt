@@ -1,5 +1,5 @@
 -- Number 16 as eight tests: which minima are not met, and the lowest of them. Definitions only.
-use Prim.Native.Nat.{ℕ}
+use Prim.Native.Nat.{ℕ, _^_, _≤_}
 use mathlib.Core.Bool.{Bool, false, not, _&&_, _||_, cond}
 use mathlib.Core.List.{List}
 use lib.Dec.{eqb}
@@ -18,6 +18,10 @@ use Rattle.rules.specs.declared.Verdict.the-variants.{Taken, Refused}
 use Rattle.rules.specs.Numbers.{tRCD, tRAS, tRC, tRP, tRRD, tRFC, tWR, tMRD}
 use Rattle.rules.specs.Banks.{bank-at}
 use Rattle.rules.specs.Minima.{Since, met}
+
+-- a minimum whose sum with a time in reach fits 64 bits
+abbrev pub FitSpan : Ps → Type 0
+FitSpan m = m .0 ≤ 2 ^ 62
 
 -- which of the eight are not met at time now, of these events
 unfoldable pub shorts : SpeedTable → Ps → Ps → List Since → Shorts

@@ -181,17 +181,19 @@ pub fn ask_burst(
     let startup = c.startup;
     let status = own.status;
     let access = layout::is_access(k);
-    if steps::begun(startup) & steps::started(startup) {
-        if !access | banks::is_open(status) {
-            let any = minima::any_shorts(t, c.period, startup, now);
-            let rcd = minima::access_shorts(access, t, c.period, own, now);
-            let v = minima::lowest(minima::either(any, rcd));
-            let Verdict::Taken = v else {
-                return v;
-            };
-            return verdicts::bus_verdict(k, t, c, status, r, n);
+    if steps::begun(startup) {
+        if steps::started(startup) {
+            if !access | banks::is_open(status) {
+                let any = minima::any_shorts(t, c.period, startup, now);
+                let rcd = minima::access_shorts(access, t, c.period, own, now);
+                let v = minima::lowest(minima::either(any, rcd));
+                let Verdict::Taken = v else {
+                    return v;
+                };
+                return verdicts::bus_verdict(k, t, c, status, r, n);
+            }
+            return Verdict::refused(15);
         }
-        return Verdict::refused(15);
     }
     Verdict::refused(14)
 }

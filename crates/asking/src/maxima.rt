@@ -50,11 +50,16 @@ pub fn all_within(period: Ps, max: Ps, now: Ps, banks: [Bank; 4]) -> bool
     requires { ⌜ FitPeriod period × BanksFit banks ⌝ }
     ensures { λ r. ⌜ r ≡ every (λ b. open-within period max now (b .status)) banks ⌝ }
 {
-    let a = bank_within(period, max, now, banks[0]);
-    let b = bank_within(period, max, now, banks[1]);
-    let c = bank_within(period, max, now, banks[2]);
-    let d = bank_within(period, max, now, banks[3]);
-    a & (b & (c & d))
+    if !bank_within(period, max, now, banks[0]) {
+        return false;
+    }
+    if !bank_within(period, max, now, banks[1]) {
+        return false;
+    }
+    if !bank_within(period, max, now, banks[2]) {
+        return false;
+    }
+    bank_within(period, max, now, banks[3])
 }
 
 // Number 22: the closing is not "later than tRAS max after the ACTIVE".

@@ -5,7 +5,7 @@ ghost use Rattle.parts.specs.Reach.{FitPeriod, BanksFit};
 ghost use Rattle.rules.specs.Admitted.{FitStartUp, FitBank};
 ghost use Rattle.rules.specs.Banks.{bank-at};
 ghost use Rattle.rules.specs.Minima.{only, of-any, of-active, of-access, of-precharged, of-covered, of-precharge, of-idle};
-ghost use Rattle.asking.specs.Shorts.{shorts, no-shorts, either, lowest, short-closed, short-other, short-others, short-closings};
+ghost use Rattle.asking.specs.Shorts.{FitSpan, shorts, no-shorts, either, lowest, short-closed, short-other, short-others, short-closings};
 use crate::Shorts;
 use crate::since;
 use layout::Record;
@@ -114,7 +114,7 @@ pub fn any_shorts(t: SpeedTable, period: Ps, u: StartUp, now: Ps) -> Shorts
 
 // tRRD since the last ACTIVE of bank i, where that is another bank than `ba`.
 fn short_other(period: Ps, ba: u8, i: u8, b: Bank, min: Ps, now: Ps) -> bool
-    requires { ⌜ FitPeriod period × FitBank b ⌝ }
+    requires { ⌜ FitPeriod period × FitBank b × FitSpan min ⌝ }
     ensures { λ r. ⌜ r ≡ short-other period ba i b min now ⌝ }
 {
     let active = b.active;
@@ -123,7 +123,7 @@ fn short_other(period: Ps, ba: u8, i: u8, b: Bank, min: Ps, now: Ps) -> bool
 }
 
 pub fn short_others(period: Ps, ba: u8, banks: [Bank; 4], min: Ps, now: Ps) -> bool
-    requires { ⌜ FitPeriod period × BanksFit banks ⌝ }
+    requires { ⌜ FitPeriod period × BanksFit banks × FitSpan min ⌝ }
     ensures { λ r. ⌜ r ≡ short-others period ba banks min now ⌝ }
 {
     let a = short_other(period, ba, 0, banks[0], min, now);
@@ -142,7 +142,7 @@ pub fn active_shorts(
     banks: [Bank; 4],
     now: Ps,
 ) -> Shorts
-    requires { ⌜ FitPeriod period × BanksFit banks × (own ≡ bank-at banks ba) ⌝ }
+    requires { ⌜ FitPeriod period × BanksFit banks × (own ≡ bank-at banks ba) × Bounds t ⌝ }
     ensures { λ r. ⌜ r ≡ shorts t period now (of-active period ba banks) ⌝ }
 {
     let status = own.status;
@@ -161,7 +161,7 @@ pub fn active_shorts(
 
 // "READ, WRITE: tRCD since its ACTIVE", where the command is one of these.
 pub fn access_shorts(access: bool, t: SpeedTable, period: Ps, b: Bank, now: Ps) -> Shorts
-    requires { ⌜ FitPeriod period × FitBank b ⌝ }
+    requires { ⌜ FitPeriod period × FitBank b × Bounds t ⌝ }
     ensures { λ r. ⌜ r ≡ shorts t period now (only access (of-access period b)) ⌝ }
 {
     let status = b.status;
@@ -179,7 +179,7 @@ pub fn access_shorts(access: bool, t: SpeedTable, period: Ps, b: Bank, now: Ps) 
 
 // "An open bank needs tRAS min, and tWR since the last clock on which a byte was stored in it"; a closed one tRP.
 pub fn precharged_shorts(t: SpeedTable, period: Ps, b: Bank, now: Ps) -> Shorts
-    requires { ⌜ FitPeriod period × FitBank b ⌝ }
+    requires { ⌜ FitPeriod period × FitBank b × Bounds t ⌝ }
     ensures { λ r. ⌜ r ≡ shorts t period now (of-precharged period b) ⌝ }
 {
     let status = b.status;
@@ -198,7 +198,7 @@ pub fn precharged_shorts(t: SpeedTable, period: Ps, b: Bank, now: Ps) -> Shorts
 
 // Bank i, where the PRECHARGE is for it.
 pub fn covered_shorts(t: SpeedTable, period: Ps, r: Record, i: u8, b: Bank, now: Ps) -> Shorts
-    requires { ⌜ FitPeriod period × FitBank b ⌝ }
+    requires { ⌜ FitPeriod period × FitBank b × Bounds t ⌝ }
     ensures { λ x. ⌜ x ≡ shorts t period now (of-covered period r i b) ⌝ }
 {
     if layout::covers(r.addr, r.ba, i) {
@@ -210,7 +210,7 @@ pub fn covered_shorts(t: SpeedTable, period: Ps, r: Record, i: u8, b: Bank, now:
 
 // "PRECHARGE, one bank or (A10 HIGH) each of the four."
 pub fn precharge_shorts(t: SpeedTable, period: Ps, r: Record, banks: [Bank; 4], now: Ps) -> Shorts
-    requires { ⌜ FitPeriod period × BanksFit banks ⌝ }
+    requires { ⌜ FitPeriod period × BanksFit banks × Bounds t ⌝ }
     ensures { λ x. ⌜ x ≡ shorts t period now (of-precharge period r banks) ⌝ }
 {
     let a = covered_shorts(t, period, r, 0, banks[0], now);
@@ -222,6 +222,7 @@ pub fn precharge_shorts(t: SpeedTable, period: Ps, r: Record, banks: [Bank; 4], 
 
 // tRP since a bank's closing.
 fn short_closing(b: Bank, min: Ps, now: Ps) -> bool
+    requires { ⌜ FitBank b × FitSpan min ⌝ }
     ensures { λ r. ⌜ r ≡ short-closed (b .status) min now ⌝ }
 {
     let status = b.status;
@@ -229,6 +230,7 @@ fn short_closing(b: Bank, min: Ps, now: Ps) -> bool
 }
 
 pub fn short_closings(banks: [Bank; 4], min: Ps, now: Ps) -> bool
+    requires { ⌜ BanksFit banks × FitSpan min ⌝ }
     ensures { λ r. ⌜ r ≡ short-closings banks min now ⌝ }
 {
     let a = short_closing(banks[0], min, now);
@@ -240,6 +242,7 @@ pub fn short_closings(banks: [Bank; 4], min: Ps, now: Ps) -> bool
 
 // "AUTO REFRESH, LOAD MODE: .. tRP since each closing."
 pub fn idle_shorts(t: SpeedTable, period: Ps, banks: [Bank; 4], now: Ps) -> Shorts
+    requires { ⌜ BanksFit banks × Bounds t ⌝ }
     ensures { λ r. ⌜ r ≡ shorts t period now (of-idle banks) ⌝ }
 {
     Shorts {

@@ -2,24 +2,25 @@
 ghost use mathlib.Core.Path.{_≡_};
 ghost use Rattle.parts.specs.Reach.{Reach, FitPeriod};
 ghost use Rattle.rules.specs.Admitted.{FitEvent, FitStatus};
-ghost use Rattle.asking.specs.Shorts.{short-on, short-since, short-opened, short-stored, short-closed};
+ghost use Rattle.asking.specs.Shorts.{FitSpan, short-on, short-since, short-opened, short-stored, short-closed};
 use parts::time;
 use rules::Status;
 use units::Clock;
 use units::Event;
 use units::Ps;
 
-// A minimum since clock n is not met.
+// A minimum since clock n is not met. By the sum, as document 01 says it: the table's bounds keep it below 64 bits.
 pub fn short_on(period: Ps, n: Clock, min: Ps, now: Ps) -> bool
-    requires { ⌜ Reach period n ⌝ }
+    requires { ⌜ Reach period n × FitSpan min ⌝ }
     ensures { λ r. ⌜ r ≡ short-on period n min now ⌝ }
 {
-    !time::at(period, n).met(min, now)
+    let from = time::at(period, n);
+    now.0 < from.0 + min.0
 }
 
 // "A minimum is met if its event has never occurred."
 pub fn short_since(period: Ps, event: Event, min: Ps, now: Ps) -> bool
-    requires { ⌜ FitPeriod period × FitEvent event ⌝ }
+    requires { ⌜ FitPeriod period × FitEvent event × FitSpan min ⌝ }
     ensures { λ r. ⌜ r ≡ short-since period event min now ⌝ }
 {
     match event {
@@ -30,7 +31,7 @@ pub fn short_since(period: Ps, event: Event, min: Ps, now: Ps) -> bool
 
 // Since the ACTIVE of an open bank.
 pub fn short_opened(period: Ps, status: Status, min: Ps, now: Ps) -> bool
-    requires { ⌜ FitPeriod period × FitStatus status ⌝ }
+    requires { ⌜ FitPeriod period × FitStatus status × FitSpan min ⌝ }
     ensures { λ r. ⌜ r ≡ short-opened period status min now ⌝ }
 {
     match status {
@@ -42,7 +43,7 @@ pub fn short_opened(period: Ps, status: Status, min: Ps, now: Ps) -> bool
 
 // Since the last store in an open bank.
 pub fn short_stored(period: Ps, status: Status, stored: Event, min: Ps, now: Ps) -> bool
-    requires { ⌜ FitPeriod period × FitEvent stored ⌝ }
+    requires { ⌜ FitPeriod period × FitEvent stored × FitSpan min ⌝ }
     ensures { λ r. ⌜ r ≡ short-stored period status stored min now ⌝ }
 {
     match status {
@@ -54,11 +55,12 @@ pub fn short_stored(period: Ps, status: Status, stored: Event, min: Ps, now: Ps)
 
 // Since the closing of a closed bank.
 pub fn short_closed(status: Status, min: Ps, now: Ps) -> bool
+    requires { ⌜ FitStatus status × FitSpan min ⌝ }
     ensures { λ r. ⌜ r ≡ short-closed status min now ⌝ }
 {
     match status {
         Status::NotStarted => false,
         Status::Open { row: _, active: _ } => false,
-        Status::Closed { closing } => !closing.met(min, now),
+        Status::Closed { closing } => now.0 < closing.0 + min.0,
     }
 }

@@ -1,3 +1,4 @@
+use Rattle.asking.proofs.Spans.{span}
 use Rattle.asking.proofs.Events.{active-shorts}
 use Rattle.rules.specs.Admitted.{FitBank}
 use Rattle.rules.specs.declared.Bank.{Bank}
@@ -13,11 +14,11 @@ use Rattle.asking.proofs.since.short_since.Reads as short-since-reads
 
 -- src/minima.rt:153:13
 short-since-requires : tie.Need-short-since-requires
-short-since-requires c κs = (c .pre .0, subst (λ (b : Bank). FitBank b) (sym (c .pre .2)) (c .pre .1 .each (c .args .ba)) .active)
+short-since-requires c κs = (c .pre .0, subst (λ (b : Bank). FitBank b) (sym (c .pre .2)) (c .pre .1 .each (c .args .ba)) .active, span (c .pre .3 .trc))
 
 -- src/minima.rt:154:13
 short-closed-requires : tie.Need-short-closed-requires
-short-closed-requires c κs = search needs
+short-closed-requires c κs = (subst (λ (b : Bank). FitBank b) (sym (c .before .pre .2)) (c .before .pre .1 .each (c .before .args .ba)) .status, span (c .before .pre .3 .trp))
 
 -- src/minima.rt:155:14
 short-others-requires : tie.Need-short-others-requires

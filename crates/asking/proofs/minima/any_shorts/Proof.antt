@@ -1,3 +1,6 @@
+use Rattle.asking.proofs.Spans.{span}
+use Rattle.parts.proofs.Times.{time-most}
+use native.Mathlib.Omega.{arith}
 use mathlib.Core.Path.{sym}
 use Rattle.rules.proofs.Admitted.{load-fits}
 use Rattle.asking.proofs.Events.{any-shorts}
@@ -24,10 +27,10 @@ short-since-requires : tie.Need-short-since-requires
 short-since-requires c κs = search needs
 
 short-since-requires-2 : tie.Need-short-since-requires-2
-short-since-requires-2 c κs = (c .before .before .before .before .pre .0, rw (c .before .before .before .last-refresh .ensures) (c .before .before .before .before .pre .1 .refreshed))
+short-since-requires-2 c κs = (c .before .before .before .before .pre .0, rw (c .before .before .before .last-refresh .ensures) (c .before .before .before .before .pre .1 .refreshed), span (c .before .before .before .before .pre .2 .trfc))
 
 short-since-requires-3 : tie.Need-short-since-requires-3
-short-since-requires-3 c κs = (c .before .before .before .before .before .pre .0, rw (c .before .before .before .last-load .ensures) (load-fits (c .before .before .before .before .before .args .u .register) (c .before .before .before .before .before .pre .1 .register)))
+short-since-requires-3 c κs = (c .before .before .before .before .before .pre .0, rw (c .before .before .before .last-load .ensures) (load-fits (c .before .before .before .before .before .args .u .register) (c .before .before .before .before .before .pre .1 .register)), omega (arith, time-most (c .before .before .at .ensures) (omega (arith, c .before .before .before .before .before .pre .2 .tmrd)) (c .before .before .before .before .before .pre .0)))
 
 returns : tie.Need-returns
 returns c = rw (c .short-since3 .ensures, c .before .short-since2 .ensures, c .before .before .short-since .ensures, c .before .before .before .at .ensures, c .before .before .before .before .last-load .ensures, c .before .before .before .before .before .last-refresh .ensures) (sym (any-shorts _ _ _ _))

@@ -12,25 +12,25 @@ array-copy-out-covered-shorts : tie.Need-array-copy-out-covered-shorts
 array-copy-out-covered-shorts c = search needs
 
 covered-shorts-requires : tie.Need-covered-shorts-requires
-covered-shorts-requires c κs = (c .before .pre .0, c .before .pre .1 .each 0)
+covered-shorts-requires c κs = (c .before .pre .0, c .before .pre .1 .each 0, c .before .pre .2)
 
 array-copy-out-covered-shorts-2 : tie.Need-array-copy-out-covered-shorts-2
 array-copy-out-covered-shorts-2 c = search needs
 
 covered-shorts-requires-2 : tie.Need-covered-shorts-requires-2
-covered-shorts-requires-2 c κs = (c .before .before .before .pre .0, c .before .before .before .pre .1 .each 1)
+covered-shorts-requires-2 c κs = (c .before .before .before .pre .0, c .before .before .before .pre .1 .each 1, c .before .before .before .pre .2)
 
 array-copy-out-covered-shorts-3 : tie.Need-array-copy-out-covered-shorts-3
 array-copy-out-covered-shorts-3 c = search needs
 
 covered-shorts-requires-3 : tie.Need-covered-shorts-requires-3
-covered-shorts-requires-3 c κs = (c .before .before .before .before .before .pre .0, c .before .before .before .before .before .pre .1 .each 2)
+covered-shorts-requires-3 c κs = (c .before .before .before .before .before .pre .0, c .before .before .before .before .before .pre .1 .each 2, c .before .before .before .before .before .pre .2)
 
 array-copy-out-covered-shorts-4 : tie.Need-array-copy-out-covered-shorts-4
 array-copy-out-covered-shorts-4 c = search needs
 
 covered-shorts-requires-4 : tie.Need-covered-shorts-requires-4
-covered-shorts-requires-4 c κs = (c .before .before .before .before .before .before .before .pre .0, c .before .before .before .before .before .before .before .pre .1 .each 3)
+covered-shorts-requires-4 c κs = (c .before .before .before .before .before .before .before .pre .0, c .before .before .before .before .before .before .before .pre .1 .each 3, c .before .before .before .before .before .before .before .pre .2)
 
 either-requires : tie.Need-either-requires
 either-requires c κs = search needs

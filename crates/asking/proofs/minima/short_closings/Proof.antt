@@ -10,25 +10,25 @@ array-copy-out-short-closing : tie.Need-array-copy-out-short-closing
 array-copy-out-short-closing c = search needs
 
 short-closing-requires : tie.Need-short-closing-requires
-short-closing-requires c κs = search needs
+short-closing-requires c κs = (c .before .pre .0 .each 0, c .before .pre .1)
 
 array-copy-out-short-closing-2 : tie.Need-array-copy-out-short-closing-2
 array-copy-out-short-closing-2 c = search needs
 
 short-closing-requires-2 : tie.Need-short-closing-requires-2
-short-closing-requires-2 c κs = search needs
+short-closing-requires-2 c κs = (c .before .before .before .pre .0 .each 1, c .before .before .before .pre .1)
 
 array-copy-out-short-closing-3 : tie.Need-array-copy-out-short-closing-3
 array-copy-out-short-closing-3 c = search needs
 
 short-closing-requires-3 : tie.Need-short-closing-requires-3
-short-closing-requires-3 c κs = search needs
+short-closing-requires-3 c κs = (c .before .before .before .before .before .pre .0 .each 2, c .before .before .before .before .before .pre .1)
 
 array-copy-out-short-closing-4 : tie.Need-array-copy-out-short-closing-4
 array-copy-out-short-closing-4 c = search needs
 
 short-closing-requires-4 : tie.Need-short-closing-requires-4
-short-closing-requires-4 c κs = search needs
+short-closing-requires-4 c κs = (c .before .before .before .before .before .before .before .pre .0 .each 3, c .before .before .before .before .before .before .before .pre .1)
 
 returns : tie.Need-returns
 unfolding short-closings

@@ -10,25 +10,25 @@ array-copy-out-short-other : tie.Need-array-copy-out-short-other
 array-copy-out-short-other c = search needs
 
 short-other-requires : tie.Need-short-other-requires
-short-other-requires c κs = (c .before .pre .0, c .before .pre .1 .each 0)
+short-other-requires c κs = (c .before .pre .0, c .before .pre .1 .each 0, c .before .pre .2)
 
 array-copy-out-short-other-2 : tie.Need-array-copy-out-short-other-2
 array-copy-out-short-other-2 c = search needs
 
 short-other-requires-2 : tie.Need-short-other-requires-2
-short-other-requires-2 c κs = (c .before .before .before .pre .0, c .before .before .before .pre .1 .each 1)
+short-other-requires-2 c κs = (c .before .before .before .pre .0, c .before .before .before .pre .1 .each 1, c .before .before .before .pre .2)
 
 array-copy-out-short-other-3 : tie.Need-array-copy-out-short-other-3
 array-copy-out-short-other-3 c = search needs
 
 short-other-requires-3 : tie.Need-short-other-requires-3
-short-other-requires-3 c κs = (c .before .before .before .before .before .pre .0, c .before .before .before .before .before .pre .1 .each 2)
+short-other-requires-3 c κs = (c .before .before .before .before .before .pre .0, c .before .before .before .before .before .pre .1 .each 2, c .before .before .before .before .before .pre .2)
 
 array-copy-out-short-other-4 : tie.Need-array-copy-out-short-other-4
 array-copy-out-short-other-4 c = search needs
 
 short-other-requires-4 : tie.Need-short-other-requires-4
-short-other-requires-4 c κs = (c .before .before .before .before .before .before .before .pre .0, c .before .before .before .before .before .before .before .pre .1 .each 3)
+short-other-requires-4 c κs = (c .before .before .before .before .before .before .before .pre .0, c .before .before .before .before .before .before .before .pre .1 .each 3, c .before .before .before .before .before .before .before .pre .2)
 
 returns : tie.Need-returns
 unfolding short-others

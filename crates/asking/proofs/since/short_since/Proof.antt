@@ -14,7 +14,7 @@ enum-known-event : tie.Need-enum-known-event
 enum-known-event c = search needs
 
 short-on-requires : tie.Need-short-on-requires
-short-on-requires c κs = let f = rw (c .before .event .given .1) at (c .before .before .before .pre .1) in record { clock = omega (arith, f); period = c .before .before .before .pre .0 }
+short-on-requires c κs = let f = rw (c .before .event .given .1) at (c .before .before .before .pre .1) in (record { clock = omega (arith, f); period = c .before .before .before .pre .0 }, c .before .before .before .pre .2)
 
 returns : tie.Need-returns
 unfolding short-since
