@@ -66,14 +66,16 @@ fn put(beats: &mut [u64], at: usize, word: u64)
     }
 }
 
-// Record k's beat and clock.
+// Record k's beat and clock. Where the beat has no place, the clock has none.
 fn report(beats: &mut [u64], k: u64, beat: Beat, n: Clock)
     requires { ⌜ k ≤ number-max ⌝ }
     ensures { λ _. ⌜ now (beats .exit) ≡ put-line k (record { clock = n; beat = beat }) (now (beats .entry)) ⌝ }
 {
     let at = 2 * (k as usize);
-    put(beats, at, beat_word(beat));
-    put(beats, at + 1, n.0);
+    if at < beats.len() {
+        beats[at] = beat_word(beat);
+        put(beats, at + 1, n.0);
+    }
 }
 
 // The words of the record at the start of `bytes`; with under 16 bytes there is none, and zeros stand for them.
