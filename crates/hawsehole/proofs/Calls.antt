@@ -60,11 +60,11 @@ module _ (u : Setup) (trace page beats : List ℕ) (p : entry u trace page ≡ T
   long =
       eqb-true _ _ (both (leb 16 (length trace)) (eqb (length trace) (16 + 16 * header-of trace .count)) (kept 1 0 (whole-rules u (header-of trace) (length trace) (length page)) p) .1)
 
-  rest-long : length (drop 16 trace) ≡ 16 * header-of trace .count
+  pub rest-long : length (drop 16 trace) ≡ 16 * header-of trace .count
   rest-long = simp length-drop (omega (arith, long))
 
   -- the start state passes what the call of many records tries
-  enters : first-broken (records-rules u (start-of (header-of trace)) (length (drop 16 trace)) (length page)) ≡ Taken
+  pub enters : first-broken (records-rules u (start-of (header-of trace)) (length (drop 16 trace)) (length page)) ≡ Taken
   unfolding records-rules state-rules whole-rules lent-rules
   enters =
       let l = whole-rules u (header-of trace) (length trace) (length page) in

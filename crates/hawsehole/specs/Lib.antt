@@ -1,3 +1,4 @@
 pub mod Trace
 pub mod Numbers
+pub mod Walk
 pub mod Printed

@@ -1,0 +1,200 @@
+-- The one-record call on each record in turn is the fold, the call of many records and the whole-trace judge. Assumes nothing.
+use Prim.Native.Nat.{ℕ, zero, suc, _+_, _*_, _/_, _%_}
+use native.Mathlib.Omega.{arith}
+use native.Mathlib.Numerals.{add-one}
+use mathlib.Core.Path.{_≡_, refl, ap, sym, subst, _∙_}
+use mathlib.Core.Bool.{Bool, true, false, _&&_, cond}
+use mathlib.Core.List.{List, _∷_}
+use lib.Dec.{eqb}
+use lib.ListN.{length, take, drop, set, length-set, length-drop}
+use lib.Seq.{length-take-le}
+use borrow.Author.Tests.{eq-eqb, ne-eqb, eqb-true}
+use Rattle.units.specs.Module.{page-bytes}
+use Rattle.speed.specs.Table.{table-fits}
+use Rattle.layout.specs.declared.Record.{Record}
+use Rattle.layout.specs.Bytes.{header-of, record-of, records-of}
+use Rattle.layout.proofs.Widths.{record-fits}
+use Rattle.bursts.specs.declared.Beat.{Beat}
+use Rattle.bursts.specs.declared.Beat.the-variants.{Quiet, Stores, Drives}
+use Rattle.page.specs.Store.{put-lanes, put-cells, stored}
+use Rattle.rules.specs.declared.State.{State}
+use Rattle.rules.specs.declared.Setup.{Setup}
+use Rattle.rules.specs.declared.Verdict.{Verdict}
+use Rattle.rules.specs.declared.Verdict.the-variants.{Taken, Refused}
+use Rattle.rules.specs.Numbers.{first-broken}
+use Rattle.rules.specs.Rules.{ask}
+use Rattle.rules.specs.After.{own-beat, core-from, core-after, next}
+use Rattle.rules.specs.Run.{line}
+use Rattle.rules.specs.OneRecord.{period-fits, state-rules, entry-rules, Stepped, refused, taken, step}
+use Rattle.rules.specs.Report.{put-line, left, ran, fold, records-rules, records-call}
+use Rattle.rules.proofs.Admitted.{fits-admitted}
+use Rattle.rules.proofs.Kept.{kept}
+use Rattle.rules.proofs.OneRecord.{judged-refused, step-entered, taken-at-zero, step-taken}
+use Rattle.parts.specs.Reach.{Able}
+use Rattle.device.proofs.Starts.{entry-of, records-entered}
+use Rattle.device.proofs.Folds.{able-next, fold-taken, fold-refused}
+use Rattle.hawsehole.specs.Trace.{start-of}
+use Rattle.hawsehole.specs.Numbers.{whole-call}
+use Rattle.hawsehole.specs.Walk.{walk}
+use Rattle.hawsehole.proofs.Whole.{entry}
+use Rattle.hawsehole.proofs.Calls.{rest-long, enters, call-records}
+
+-- ── A store keeps the page's length ──
+
+lanes-length : (k at low dq : ℕ) (page : List ℕ) → length (put-lanes k at low dq page) ≡ length page
+unfolding put-lanes
+lanes-length zero at low dq page = refl
+lanes-length (suc k) at low dq page =
+    lanes-length k (at + 1) (low / 2) (dq / 256) (cond (eqb (low % 2) 1) (set page at (dq % 256)) page) ∙ go (eqb (low % 2) 1)
+  where
+    go : (b : Bool) → length (cond b (set page at (dq % 256)) page) ≡ length page
+    go true = length-set page at (dq % 256)
+    go false = refl
+
+stored-length : (bank row dq : ℕ) (b : Beat) (page : List ℕ) → length (stored bank row dq b page) ≡ length page
+unfolding stored
+stored-length bank row dq Quiet page = refl
+stored-length bank row dq (Stores c) page = go (eqb (c .bank) bank && eqb (c .row) row)
+  where
+    go : (b : Bool) → length (cond b (put-cells c dq page) page) ≡ length page
+    go true = lanes-length 8 (8 * c .column) (c .lanes) dq page
+    go false = refl
+stored-length bank row dq (Drives c) page = refl
+
+-- ── What each call of the walk is entered with ──
+
+-- a state from which so many records may still be judged, whose period, table and page pass 3, 6 and 7
+record Ready (u : Setup) (s : State) (count : ℕ) (page : List ℕ) : Type 0 where
+  able : Able u s count
+  period : period-fits (s .core .period) ≡ true
+  table : table-fits (u .table) ≡ true
+  lent : length page ≡ page-bytes
+
+-- 1, 3, 6, 7 and 25 pass
+ready-entered : (u : Setup) (s : State) (count : ℕ) (bytes page : List ℕ) → Ready u s count page → length bytes ≡ 16
+    → first-broken (entry-rules u s bytes page) ≡ Taken
+unfolding entry-rules state-rules
+ready-entered u s count bytes page e h =
+    rw (eq-eqb (length bytes) 16 h, e .period, e .table, eq-eqb (length page) page-bytes (e .lent), fits-admitted s (e .able .state))
+
+-- the page that a taken record leaves
+abbrev page-next : State → Record → List ℕ → List ℕ
+page-next s r page = stored (s .core .bank) (s .core .row) (r .dq) (own-beat s r) page
+
+-- a taken record leaves the same for one record less
+ready-next : (u : Setup) (s : State) (k : ℕ) (bytes page : List ℕ) → Ready u s (suc k) page → ask u s (record-of bytes) ≡ Taken
+    → Ready u (next u s (record-of bytes)) k (page-next s (record-of bytes) page)
+unfolding next core-after core-from
+ready-next u s k bytes page e p =
+    record {
+      able = able-next u s k (record-of bytes) (subst (λ (c : ℕ). Able u s c) (sym (add-one k)) (e .able)) (record-fits bytes) p;
+      period = e .period;
+      table = e .table;
+      lent = stored-length (s .core .bank) (s .core .row) (record-of bytes .dq) (own-beat s (record-of bytes)) page ∙ e .lent;
+    }
+
+-- ── One call ──
+
+module _ (u : Setup) (s : State) (k : ℕ) (bytes page beats : List ℕ) where
+  abbrev first : Record
+  first = record-of (take 16 bytes)
+
+  -- a call that takes its record
+  walk-taken : step u s (take 16 bytes) page ≡ taken u s first page
+      → walk u s (suc k) bytes page beats
+      ≡ walk u (next u s first) k (drop 16 bytes) (page-next s first page) (put-line (s .core .number) (line s first) beats)
+  unfolding walk next core-after core-from
+  walk-taken p = rw (p, walk)
+
+  -- one that refuses it, with another number than 0
+  walk-refused : (n i : ℕ) → step u s (take 16 bytes) page ≡ refused n i (s .core .number) s page → eqb n 0 ≡ false
+      → walk u s (suc k) bytes page beats ≡ left (ran (Refused n i) (s .core .number)) page beats
+  unfolding walk
+  walk-refused n i p z = rw (p, z)
+
+  -- where the call looks at its record, by what it finds
+  module _ (p : first-broken (entry-rules u s (take 16 bytes) page) ≡ Taken) where
+    asked-taken : ask u s first ≡ Taken
+        → walk u s (suc k) bytes page beats
+        ≡ walk u (next u s first) k (drop 16 bytes) (page-next s first page) (put-line (s .core .number) (line s first) beats)
+    asked-taken q = walk-taken (step-taken u s (take 16 bytes) page (record { entered = p; asked = q }))
+
+    -- no row that a record meets has number 0
+    asked-refused : (n i : ℕ) → ask u s first ≡ Refused n i
+        → walk u s (suc k) bytes page beats ≡ left (ran (Refused n i) (s .core .number)) page beats
+    asked-refused n i q =
+        let w : step u s (take 16 bytes) page ≡ refused n i (s .core .number) s page = step-entered u s (take 16 bytes) page p ∙ judged-refused u s first page n i q in
+        walk-refused n i w
+        (ne-eqb n 0
+        (λ z.
+        let e = taken-at-zero u s (take 16 bytes) page (subst (λ (x : Stepped). x .answer .number ≡ 0) (sym w) z) in
+        let a : _≡_ {A = Verdict} (Refused n i) Taken = sym q ∙ e .asked in
+        let b : _≡_ {A = ℕ} 0 1 = cc in
+        absurd (omega arith)))
+
+-- ── Call after call ──
+
+ready-walk : (u : Setup) (s : State) (count : ℕ) (bytes page beats : List ℕ) → length bytes ≡ 16 * count → Ready u s count page
+    → walk u s count bytes page beats ≡ fold u s (records-of count bytes) page beats
+unfolding walk fold records-of
+ready-walk u s zero bytes page beats h e = refl
+ready-walk u s (suc k) bytes page beats h e =
+    go (ask u s r) refl
+    (λ p. ready-walk u (next u s r) k (drop 16 bytes) (page-next s r page) (put-line (s .core .number) (line s r) beats) rest (ready-next u s k (take 16 bytes) page e p))
+  where
+    r : Record
+    r = record-of (take 16 bytes)
+
+    rest : length (drop 16 bytes) ≡ 16 * k
+    rest = simp length-drop (omega (arith, h))
+
+    enter : first-broken (entry-rules u s (take 16 bytes) page) ≡ Taken
+    enter = ready-entered u s (suc k) (take 16 bytes) page e (length-take-le 16 bytes (omega (arith, h)))
+
+    go : (v : Verdict) → ask u s r ≡ v
+        → (ask u s r ≡ Taken
+        → walk u (next u s r) k (drop 16 bytes) (page-next s r page) (put-line (s .core .number) (line s r) beats)
+        ≡ fold u (next u s r) (records-of k (drop 16 bytes)) (page-next s r page) (put-line (s .core .number) (line s r) beats))
+        → walk u s (suc k) bytes page beats ≡ fold u s (r ∷ records-of k (drop 16 bytes)) page beats
+    go Taken p ih =
+        asked-taken u s k bytes page beats enter p ∙ ih p ∙ sym (fold-taken u s r (records-of k (drop 16 bytes)) page beats p)
+    go (Refused n i) p ih =
+        asked-refused u s k bytes page beats enter n i p ∙ sym (fold-refused u s r (records-of k (drop 16 bytes)) page beats n i p)
+
+-- ── From what the call of many records tries before its first ──
+
+ready : (u : Setup) (s : State) (count bytes : ℕ) (page : List ℕ) → bytes ≡ 16 * count
+    → first-broken (records-rules u s bytes (length page)) ≡ Taken → Ready u s count page
+unfolding records-rules state-rules
+ready u s count bytes page h p =
+    let l = records-rules u s bytes (length page) in
+    let n : bytes / 16 ≡ count = omega (arith, h) in
+    record {
+      able = subst (λ (c : ℕ). Able u s c) n (entry-of u s bytes (length page) p .able);
+      period = kept 3 0 l p;
+      table = kept 6 0 l p;
+      lent = eqb-true (length page) page-bytes (kept 7 0 l p);
+    }
+
+-- THE ONE-RECORD CALL ON EACH RECORD IN TURN IS THE FOLD, where 1, 3, 6, 7 and 25 pass before the first
+pub walk-fold : (u : Setup) (s : State) (count : ℕ) (bytes page beats : List ℕ) → length bytes ≡ 16 * count
+    → first-broken (records-rules u s (length bytes) (length page)) ≡ Taken
+    → walk u s count bytes page beats ≡ fold u s (records-of count bytes) page beats
+walk-fold u s count bytes page beats h p = ready-walk u s count bytes page beats h (ready u s count (length bytes) page h p)
+
+-- and so the call of many records
+pub walk-records : (u : Setup) (s : State) (bytes page beats : List ℕ)
+    → first-broken (records-rules u s (length bytes) (length page)) ≡ Taken
+    → walk u s (length bytes / 16) bytes page beats ≡ records-call u s bytes page beats
+walk-records u s bytes page beats p =
+    let h : length bytes ≡ 16 * (length bytes / 16) = omega (arith, entry-of u s (length bytes) (length page) p .whole) in
+    walk-fold u s (length bytes / 16) bytes page beats h p ∙ sym (records-entered u s bytes page beats p)
+
+-- AND, FROM A TRACE'S START STATE, THE WHOLE-TRACE JUDGE, where 1 to 7 pass
+pub walk-whole : (u : Setup) (trace page beats : List ℕ) → entry u trace page ≡ Taken
+    → walk u (start-of (header-of trace)) (header-of trace .count) (drop 16 trace) page beats ≡ whole-call u trace page beats
+walk-whole u trace page beats p =
+    let count : length (drop 16 trace) / 16 ≡ header-of trace .count = omega (arith, rest-long u trace page beats p) in
+    sym (ap (λ (k : ℕ). walk u (start-of (header-of trace)) k (drop 16 trace) page beats) count)
+    ∙ walk-records u (start-of (header-of trace)) (drop 16 trace) page beats (enters u trace page beats p)
+    ∙ call-records u trace page beats p
