@@ -152,6 +152,7 @@ fn fold(
         let k = layout::command_of(r.code);
         let code = layout::code_of(k);
         let held = bus.masks;
+        // LOAD MODE, AUTO REFRESH, PRECHARGE, ACTIVE
         if code < 4 {
             let own = all[r.ba as usize];
             let c = core_of(core, number, last, startup, bus);
@@ -160,6 +161,7 @@ fn fold(
                 return ended(v, number);
             };
         }
+        // WRITE, READ, BURST TERMINATE
         if (3 < code) & (code < 7) {
             let own = all[r.ba as usize];
             let c = core_of(core, number, last, startup, bus);
@@ -176,6 +178,7 @@ fn fold(
             let own = all[r.ba as usize];
             all[r.ba as usize] = leaving::self_closed(k, t, period, startup, n, own);
         }
+        // ACTIVE, and then the three below it
         if code == 3 {
             all[r.ba as usize] = leaving::activated(r.addr, n);
         }
