@@ -1,5 +1,6 @@
 // A burst's registration, and what cuts it short (01, Beats).
 ghost use mathlib.Core.Path.{_≡_};
+ghost use mathlib.Core.Bool.{cond};
 ghost use Rattle.layout.specs.Commands.{is};
 ghost use Rattle.bursts.specs.Burst.{no-burst, burst-at, ends, sooner, cut-if, cut-by};
 use crate::Burst;
@@ -28,17 +29,17 @@ pub fn ends(k: Command, addr: u16, ba: u8, i: u8) -> bool
     is_access(k) | is(k, Command::Terminate) | (is(k, Command::Precharge) & own)
 }
 
-// The earlier of a cut on clock n and the cut so far: what a cut took is lost for good.
-pub fn sooner(n: Clock, cut: Event) -> Event
-    ensures { λ r. ⌜ r ≡ sooner n cut ⌝ }
+// The earlier of a cut on clock n, where one is asked, and the cut so far: what a cut took is lost for good.
+fn sooner_if(f: bool, n: Clock, cut: Event) -> Event
+    ensures { λ r. ⌜ r ≡ cond f (sooner n cut) cut ⌝ }
 {
     match cut {
-        Event::Never => Event::On(n),
+        Event::Never => { if f { Event::On(n) } else { Event::Never } }
         Event::On(x) => {
-            if x.0 < n.0 {
-                Event::On(x)
-            } else {
+            if f & (n.0 <= x.0) {
                 Event::On(n)
+            } else {
+                Event::On(x)
             }
         }
     }
@@ -83,26 +84,24 @@ impl Burst {
         }
     }
 
-    // The burst, cut on clock n where that is asked.
+    // The burst, cut on clock n where that is asked. It is built anew where nothing is cut, too: a burst that is copied
+    // whole takes its unused bytes along, and the loop over the records would carry them from one to the next.
     pub fn cut_if(self, f: bool, n: Clock) -> Burst
         ensures { λ r. ⌜ r ≡ cut-if f n self ⌝ }
     {
-        if f {
-            let held = self.cut;
-            let cut = sooner(n, held);
-            let start = self.start;
-            return Burst {
-                live: self.live,
-                auto: self.auto,
-                bank: self.bank,
-                row: self.row,
-                column: self.column,
-                start,
-                cut,
-                word: self.word,
-            };
+        let held = self.cut;
+        let start = self.start;
+        let cut = sooner_if(f, n, held);
+        Burst {
+            live: self.live,
+            auto: self.auto,
+            bank: self.bank,
+            row: self.row,
+            column: self.column,
+            start,
+            cut,
+            word: self.word,
         }
-        self
     }
 
     // The burst as this command on clock n leaves it.
