@@ -1,22 +1,24 @@
 -- Recursions on the four READ bursts, as the code writes them out. Assumes nothing.
 use Prim.Native.Nat.{ℕ}
 use native.Mathlib.Omega.{arith}
-use mathlib.Core.Path.{_≡_, refl, ap, sym, _∙_}
-use mathlib.Core.Bool.{true, false, _&&_, _||_, and-true, or-false}
+use mathlib.Core.Path.{_≡_, refl, ap, _∙_}
+use mathlib.Core.Bool.{Bool, true, false, _&&_, _||_, cond, and-true, or-false}
 use mathlib.Core.List.{List, [], _∷_}
-use lib.ListN.{length, getD, take}
+use lib.ListN.{length, getD}
 use Rattle.units.specs.declared.Clock.{Clock}
 use Rattle.units.specs.declared.Event.the-variants.{Never}
 use Rattle.units.specs.Time.{clock}
+use Rattle.layout.specs.declared.Record.{Record}
 use Rattle.layout.specs.declared.Command.{Command}
 use Rattle.layout.specs.declared.Command.the-variants.{Read, Write}
 use Rattle.layout.specs.Commands.{is}
 use Rattle.mode.specs.Word.{length-of}
 use Rattle.bursts.specs.declared.Burst.{Burst}
+use Rattle.bursts.specs.declared.Cells.{Cells}
 use Rattle.bursts.specs.declared.Beat.{Beat}
-use Rattle.bursts.specs.declared.Beat.the-variants.{Quiet, Stores, Drives}
-use Rattle.bursts.specs.Burst.{cut-by, reads-on, read-beat, finished}
-use Rattle.bursts.specs.Bus.{or-else, no-reads, reads-beat, reads-run, cut-each, reads-from, reads-finished}
+use Rattle.bursts.specs.declared.Beat.the-variants.{Quiet, Drives}
+use Rattle.bursts.specs.Burst.{burst-at, cut-if, cut-by, reads-on, read-beat, finished}
+use Rattle.bursts.specs.Bus.{or-else, no-reads, reads-beat, reads-run, cut-each, reads-from, reads-after, reads-finished}
 
 -- what an array of bursts is taken to hold past its end
 abbrev pub past : Burst
@@ -35,19 +37,26 @@ four (a ∷ b ∷ c ∷ []) h = absurd (omega arith)
 four (a ∷ b ∷ c ∷ d ∷ []) h = refl
 four (a ∷ b ∷ c ∷ d ∷ e ∷ l) h = absurd (omega arith)
 
--- a beat, or else none, is the beat
-or-else-quiet : (a : Beat) → or-else a Quiet ≡ a
-or-else-quiet Quiet = refl
-or-else-quiet (Stores c) = refl
-or-else-quiet (Drives c) = refl
+-- a beat that drives where a test holds: the test chooses between it and what comes after
+drives-or-else : (t : Bool) (c : Cells) (x : Beat) → or-else (cond t (Drives c) Quiet) x ≡ cond t (cond t (Drives c) Quiet) x
+drives-or-else true c x = refl
+drives-or-else false c x = refl
+
+-- a READ that runs has the beat, and one that does not leaves it to the others
+runs-or-else : (b : Burst) (masks : ℕ) (n : Clock) (x : Beat)
+    → or-else (read-beat b masks n) x ≡ cond (reads-on b n) (read-beat b masks n) x
+unfolding read-beat
+runs-or-else b masks n x = drives-or-else (reads-on b n) _ x
 
 module _ (bs : List Burst) (h : length bs ≡ 4) where
+  -- the beat of the READs is that of the first that runs
   pub reads-beat-four : (masks : ℕ) (n : Clock)
       → reads-beat bs masks n
-      ≡ or-else (read-beat (burst bs 0) masks n)
-      (or-else (read-beat (burst bs 1) masks n)
-      (or-else (read-beat (burst bs 2) masks n) (read-beat (burst bs 3) masks n)))
-  reads-beat-four masks n = ap (λ (l : List Burst). reads-beat l masks n) (four bs h) ∙ rw or-else-quiet
+      ≡ cond (reads-on (burst bs 0) n) (read-beat (burst bs 0) masks n)
+      (cond (reads-on (burst bs 1) n) (read-beat (burst bs 1) masks n)
+      (cond (reads-on (burst bs 2) n) (read-beat (burst bs 2) masks n)
+      (cond (reads-on (burst bs 3) n) (read-beat (burst bs 3) masks n) Quiet)))
+  reads-beat-four masks n = ap (λ (l : List Burst). reads-beat l masks n) (four bs h) ∙ simp runs-or-else
 
   pub reads-run-four : (n : Clock)
       → reads-run bs n
@@ -71,11 +80,16 @@ module _ (bs : List Burst) (h : length bs ≡ 4) where
       && finished (length-of (burst bs 3 .word)) n (burst bs 3))))
   reads-finished-four n = ap (reads-finished n) (four bs h) ∙ rw and-true
 
-  -- a READ is the latest, and the fourth before it is let go
-  pub new-first : (k : Command) (new : Burst) → is k Write ≡ false → is k Read ≡ true
-      → (new ∷ burst bs 0 ∷ burst bs 1 ∷ burst bs 2 ∷ []) ≡ reads-from k new bs
+  -- a READ is the latest and cuts those before it, of which the fourth is let go
+  pub new-first : (k : Command) (r : Record) (n : Clock) (word row : ℕ) → is k Write ≡ false → is k Read ≡ true
+      → (burst-at word n (r .addr) (r .ba) row
+      ∷ cut-if true n (burst bs 0)
+      ∷ cut-if true n (burst bs 1)
+      ∷ cut-if true n (burst bs 2)
+      ∷ [])
+      ≡ reads-after k r n word row bs
   unfolding reads-from
-  new-first k new w r = rw (w, r) (sym (ap (λ (l : List Burst). new ∷ take 3 l) (four bs h)))
+  new-first k r n word row w e = rw (w, e, cut-each-four k (r .addr) (r .ba) n, e)
 
 module _ (k : Command) (new : Burst) (bs : List Burst) where
   -- a WRITE leaves no READ burst

@@ -13,7 +13,7 @@ use Rattle.mode.specs.Word.{latency}
 use Rattle.bursts.specs.declared.Burst.{Burst}
 use Rattle.bursts.specs.declared.Masks.{Masks}
 use Rattle.bursts.specs.declared.Beat.the-variants.{Quiet, Drives}
-use Rattle.bursts.specs.Burst.{lanes-low, cells, write-beat, reads-on, read-beat}
+use Rattle.bursts.specs.Burst.{lanes-low, cells, reads-on, read-beat}
 use Rattle.bursts.specs.Bus.{
   all-high,
   masks-on,
@@ -21,7 +21,6 @@ use Rattle.bursts.specs.Bus.{
   or-else,
   reads-beat,
   reads-run,
-  beat-on,
   drives-lane,
   driven,
   one-before,
@@ -43,22 +42,6 @@ drives-any (b ∷ bs) masks n = go (reads-on b n) (drives-any bs masks n)
         ≡ ((x || reads-run bs n) && not (eqb (lanes-low masks) 0))
     go true h = refl
     go false h = h
-
--- where none runs there is no beat
-none-runs : (bs : List Burst) (masks : ℕ) (n : Clock) → reads-run bs n ≡ false → reads-beat bs masks n ≡ Quiet
-unfolding read-beat
-none-runs [] masks n h = refl
-none-runs (b ∷ bs) masks n h = go (reads-on b n) h (none-runs bs masks n)
-  where
-    go : (x : Bool) → (x || reads-run bs n) ≡ false → (reads-run bs n ≡ false → reads-beat bs masks n ≡ Quiet)
-        → or-else (cond x (Drives (cells b (n .0 - latency (b .word) - b .start .0) masks)) Quiet) (reads-beat bs masks n) ≡ Quiet
-    go true e f = absurd (true≢false e)
-    go false e f = f e
-
-module _ (last : Event) (held : Masks) (write : Burst) (bs : List Burst) (masks : ℕ) (n : Clock) where
-  pub quiet-when-none-runs : write-beat write masks n ≡ Quiet → reads-run bs n ≡ false → Quiet ≡ beat-on last held write bs masks n
-  unfolding beat-on
-  quiet-when-none-runs w r = rw (w, none-runs bs (masks-on last held (two-before n)) n r)
 
 -- ── Clear on two clocks ──
 

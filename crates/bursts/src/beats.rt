@@ -1,7 +1,7 @@
 // The beats of one burst, and what a beat stores or drives (01, Beats).
 ghost use mathlib.Core.Path.{_≡_};
 ghost use Rattle.bursts.specs.Burst.{before-cut, has-beat, lanes-low, cells-at, write-beat, reads-on, read-beat, finished};
-ghost use Rattle.bursts.specs.Bus.{or-else, stores-in};
+ghost use Rattle.bursts.specs.Bus.{stores-in};
 use crate::Beat;
 use crate::Burst;
 use crate::Cells;
@@ -29,17 +29,6 @@ pub fn lanes_low(masks: u8) -> u8
     ensures { λ r. ⌜ r ≡ lanes-low masks ⌝ }
 {
     255 - masks
-}
-
-// Two beats never fall on one clock in a trace. For states that no trace reaches, the first is meant.
-pub fn or_else(a: Beat, b: Beat) -> Beat
-    ensures { λ r. ⌜ r ≡ or-else a b ⌝ }
-{
-    match a {
-        Beat::Quiet => b,
-        Beat::Stores(cells) => Beat::Stores(cells),
-        Beat::Drives(cells) => Beat::Drives(cells),
-    }
 }
 
 // Beat i of a burst from this bank, row and column, on the lanes that these masks leave. It takes numbers and not the burst:

@@ -14,7 +14,6 @@ use crate::reads::reads_after;
 use crate::reads::reads_beat;
 use crate::reads::reads_clear;
 use crate::reads::reads_finished;
-use crate::reads::reads_run;
 use layout::Command;
 use layout::Record;
 use mode::write_length;
@@ -66,7 +65,7 @@ pub fn bus_after(k: Command, r: Record, n: Clock, word: u16, row: u16, u: Bus) -
 }
 
 // "The beat on its own clock", n, of a record with these masks, from the bursts that it leaves. A WRITE's lanes hang on
-// the record's own masks, a READ's on those of two clocks before, which are looked up only where a READ runs.
+// the record's own masks, a READ's on those of two clocks before.
 pub fn beat_on(
     last: Event,
     held: Masks,
@@ -81,11 +80,7 @@ pub fn beat_on(
     let Beat::Quiet = stored else {
         return stored;
     };
-    if reads_run(reads, n) {
-        let earlier = masks_on(last, held, two_before(n));
-        return reads_beat(reads, earlier, n);
-    }
-    Beat::Quiet
+    reads_beat(last, held, reads, n)
 }
 
 // Number 19: no auto precharge burst is unfinished on clock n. A WRITE with M9 = 1 has length 1; the length

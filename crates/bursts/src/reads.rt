@@ -5,16 +5,19 @@ ghost use Rattle.layout.specs.declared.Command.the-variants.{Terminate, Prechar
 ghost use Rattle.layout.specs.Commands.{is, access};
 ghost use Rattle.mode.specs.Word.{length-of};
 ghost use Rattle.bursts.specs.Burst.{reads-on, finished};
-ghost use Rattle.bursts.specs.Bus.{no-reads, reads-beat, reads-run, cut-each, reads-from, reads-after, reads-finished};
+ghost use Rattle.bursts.specs.Bus.{masks-on, two-before, no-reads, reads-beat, reads-run, cut-each, reads-after, reads-finished};
 use crate::Beat;
 use crate::Burst;
-use crate::beats::or_else;
+use crate::Masks;
 use crate::cuts::is;
+use crate::masking::masks_on;
+use crate::masking::two_before;
 use layout::Command;
 use layout::Record;
 use layout::is_access;
 use mode::length_of;
 use units::Clock;
+use units::Event;
 
 // No READ burst: what a WRITE leaves.
 pub fn no_reads() -> [Burst; 4]
@@ -31,31 +34,28 @@ pub fn can_end(k: Command) -> bool
     is_access(k) | is(k, Command::Terminate) | is(k, Command::Precharge)
 }
 
-// The beat of the READ bursts on clock n, the latest READ's first. `masks` are those of two clocks before.
-pub fn reads_beat(bs: [Burst; 4], masks: u8, n: Clock) -> Beat
-    ensures { λ r. ⌜ r ≡ reads-beat bs masks n ⌝ }
-{
-    let a = bs[0].read_beat(masks, n);
-    let b = bs[1].read_beat(masks, n);
-    let c = bs[2].read_beat(masks, n);
-    let d = bs[3].read_beat(masks, n);
-    or_else(a, or_else(b, or_else(c, d)))
-}
-
-// Some READ has a beat on clock n. By early returns: a READ that runs spares a look at the older ones.
-pub fn reads_run(bs: [Burst; 4], n: Clock) -> bool
-    ensures { λ r. ⌜ r ≡ reads-run bs n ⌝ }
+// The beat of the READ bursts on clock n, the latest READ's first. The masks of two clocks before are looked up only
+// where a READ runs, and one that runs spares a look at the older ones.
+pub fn reads_beat(last: Event, held: Masks, bs: [Burst; 4], n: Clock) -> Beat
+    ensures { λ r. ⌜ r ≡ reads-beat bs (masks-on last held (two-before n)) n ⌝ }
 {
     if bs[0].reads_on(n) {
-        return true;
+        let masks = masks_on(last, held, two_before(n));
+        return bs[0].read_beat(masks, n);
     }
     if bs[1].reads_on(n) {
-        return true;
+        let masks = masks_on(last, held, two_before(n));
+        return bs[1].read_beat(masks, n);
     }
     if bs[2].reads_on(n) {
-        return true;
+        let masks = masks_on(last, held, two_before(n));
+        return bs[2].read_beat(masks, n);
     }
-    bs[3].reads_on(n)
+    if bs[3].reads_on(n) {
+        let masks = masks_on(last, held, two_before(n));
+        return bs[3].read_beat(masks, n);
+    }
+    Beat::Quiet
 }
 
 // Each burst as this command on clock n leaves it.
@@ -69,25 +69,9 @@ pub fn cut_each(k: Command, addr: u16, ba: u8, n: Clock, bs: [Burst; 4]) -> [Bur
     [a, b, c, d]
 }
 
-// The bursts from those that the command left cut. A WRITE loses every beat still to come: "a WRITE at x with
-// r < x <= r + CL + i". A READ is the latest from now on; a fifth has no beat left.
-pub fn reads_from(k: Command, new: Burst, bs: [Burst; 4]) -> [Burst; 4]
-    ensures { λ r. ⌜ r ≡ reads-from k new bs ⌝ }
-{
-    if is(k, Command::Write) {
-        return no_reads();
-    }
-    if is(k, Command::Read) {
-        let a = bs[0];
-        let b = bs[1];
-        let c = bs[2];
-        return [new, a, b, c];
-    }
-    bs
-}
-
-// The bursts after command k of record r on clock n, in mode `word`, of the open row. Most records end no burst, and
-// then nothing is walked.
+// The bursts after command k of record r on clock n, in mode `word`, of the open row. A WRITE loses every beat still to
+// come, "a WRITE at x with r < x <= r + CL + i", so that none is cut first. A READ is the latest from now on; a fifth has
+// no beat left. Most records end no burst, and then nothing is walked.
 pub fn reads_after(
     k: Command,
     r: Record,
@@ -98,12 +82,20 @@ pub fn reads_after(
 ) -> [Burst; 4]
     ensures { λ x. ⌜ x ≡ reads-after k r n word row bs ⌝ }
 {
-    if !can_end(k) {
-        return bs;
+    if is(k, Command::Write) {
+        return no_reads();
     }
-    let left = cut_each(k, r.addr, r.ba, n, bs);
-    let new = Burst::at(word, n, r.addr, r.ba, row);
-    reads_from(k, new, left)
+    if is(k, Command::Read) {
+        let new = Burst::at(word, n, r.addr, r.ba, row);
+        let a = bs[0].cut_if(true, n);
+        let b = bs[1].cut_if(true, n);
+        let c = bs[2].cut_if(true, n);
+        return [new, a, b, c];
+    }
+    if can_end(k) {
+        return cut_each(k, r.addr, r.ba, n, bs);
+    }
+    bs
 }
 
 impl Burst {
@@ -135,15 +127,21 @@ impl Burst {
     }
 }
 
-// Each of the four asks no auto precharge, or is finished.
+// Each of the four asks no auto precharge, or is finished. By early returns: one that is unfinished spares a look at the
+// older ones.
 pub fn reads_finished(n: Clock, bs: [Burst; 4]) -> bool
     ensures { λ r. ⌜ r ≡ reads-finished n bs ⌝ }
 {
-    let a = bs[0].read_finished(n);
-    let b = bs[1].read_finished(n);
-    let c = bs[2].read_finished(n);
-    let d = bs[3].read_finished(n);
-    a & (b & (c & d))
+    if !bs[0].read_finished(n) {
+        return false;
+    }
+    if !bs[1].read_finished(n) {
+        return false;
+    }
+    if !bs[2].read_finished(n) {
+        return false;
+    }
+    bs[3].read_finished(n)
 }
 
 // None of the four drives a lane on clock n, nor on clock m.

@@ -1,13 +1,12 @@
--- `bursts::databus::beat_on` meets its contract: the WRITE's beat, a READ's, or none. Assumes nothing.
+-- `bursts::databus::beat_on` meets its contract: the WRITE's beat, or else the READs'. Assumes nothing.
 use native.Mathlib.Omega.{arith}
 use mathlib.Core.Logic.{_⊎_, ⊎-elim}
-use mathlib.Core.Path.{_≡_, refl, sym, _∙_}
+use mathlib.Core.Path.{_≡_, refl}
 use denote.Enum.Declared.{tagOf}
 use borrow.Author.Needs.{needs}
 use Rattle.bursts.specs.declared.Beat.{Beat}
 use Rattle.bursts.specs.declared.Beat.the-variants.{Quiet, Stores, Drives}
 use Rattle.bursts.specs.Bus.{or-else, beat-on}
-use Rattle.bursts.proofs.Running.{quiet-when-none-runs}
 use Rattle.bursts.proofs.Beat.{the-type}
 use Rattle.bursts.proofs.databus.beat_on.Statement.{statement}
 use Rattle.bursts.proofs.databus.beat_on.Tie as tie
@@ -28,35 +27,13 @@ returns : tie.Need-returns
 unfolding beat-on
 returns c = rw (← c .before .write-beat .ensures) (kept _ _ (c .match .keys2))
 
-reads-run-requires : tie.Need-reads-run-requires
-reads-run-requires c κs = search needs
-
-two-before-requires : tie.Need-two-before-requires
-two-before-requires c κs = search needs
-
-masks-on-requires : tie.Need-masks-on-requires
-masks-on-requires c κs = search needs
-
 reads-beat-requires : tie.Need-reads-beat-requires
 reads-beat-requires c κs = search needs
 
 returns-2 : tie.Need-returns-2
 unfolding beat-on
-returns-2 c = rw (c .reads-beat .ensures, c .before .masks-on .ensures, c .before .before .two-before .ensures, ← c .before .before .before .before .before .before .before .write-beat .ensures, c .before .before .before .before .before .enum-told .given .1)
-
-returns-3 : tie.Need-returns-3
-returns-3 c = quiet-when-none-runs _ _ _ _ _ _ (sym (c .before .before .before .before .write-beat .ensures) ∙ c .before .before .enum-told .given .1) (sym (c .before .reads-run .ensures) ∙ c .if1 .left)
+returns-2 c = rw (c .reads-beat .ensures, ← c .before .before .before .write-beat .ensures, c .before .enum-told .given .1)
 
 pub beat-on-spec : {M : Type 1} → statement M
 beat-on-spec =
-    tie.close
-    (tie.spec
-    write-beat-requires
-    enum-told
-    returns
-    reads-run-requires
-    two-before-requires
-    masks-on-requires
-    reads-beat-requires
-    returns-2
-    returns-3)
+    tie.close (tie.spec write-beat-requires enum-told returns reads-beat-requires returns-2)

@@ -1,30 +1,80 @@
--- `bursts::reads::reads_after` meets its contract: a command that can end no burst leaves them; else its callees' answers are the definition's. Assumes nothing.
+-- `bursts::reads::reads_after` meets its contract: a WRITE, a READ, another command that can end a burst, and one that can end none. Assumes nothing.
 use mathlib.Core.Path.{sym, _∙_}
 use borrow.Author.Needs.{needs}
-use borrow.Author.Tests.{not-true}
+use Rattle.bursts.proofs.Four.{new-first, none-after-write, kept-otherwise}
 use Rattle.bursts.proofs.Untouched.{reads-untouched}
 use Rattle.bursts.proofs.reads.reads_after.Statement.{statement}
 use Rattle.bursts.proofs.reads.reads_after.Tie as tie
 
-can-end-requires : tie.Need-can-end-requires
-can-end-requires c κs = search needs
+is-requires : tie.Need-is-requires
+is-requires c κs = search needs
+
+no-reads-requires : tie.Need-no-reads-requires
+no-reads-requires c κs = search needs
 
 returns : tie.Need-returns
-returns c = let a = c .before .before .args in reads-untouched _ (sym (c .before .can-end .ensures) ∙ not-true _ (c .if1 .taken)) (a .r) (a .n) (a .word) (a .row) _
+returns c = rw (c .no-reads .ensures) (none-after-write _ _ _ (sym (c .before .before .is .ensures) ∙ c .before .if1 .taken))
 
-cut-each-requires : tie.Need-cut-each-requires
-cut-each-requires c κs = search needs
+is-requires-2 : tie.Need-is-requires-2
+is-requires-2 c κs = search needs
 
 at-requires : tie.Need-at-requires
 at-requires c κs = search needs
 
-reads-from-requires : tie.Need-reads-from-requires
-reads-from-requires c κs = search needs
+array-copy-out-cut-if : tie.Need-array-copy-out-cut-if
+array-copy-out-cut-if c = search needs
+
+cut-if-requires : tie.Need-cut-if-requires
+cut-if-requires c κs = search needs
+
+array-copy-out-cut-if-2 : tie.Need-array-copy-out-cut-if-2
+array-copy-out-cut-if-2 c = search needs
+
+cut-if-requires-2 : tie.Need-cut-if-requires-2
+cut-if-requires-2 c κs = search needs
+
+array-copy-out-cut-if-3 : tie.Need-array-copy-out-cut-if-3
+array-copy-out-cut-if-3 c = search needs
+
+cut-if-requires-3 : tie.Need-cut-if-requires-3
+cut-if-requires-3 c κs = search needs
 
 returns-2 : tie.Need-returns-2
-returns-2 c = rw (c .reads-from .ensures, c .before .at .ensures, c .before .before .cut-each .ensures)
+returns-2 c =
+    let s = c .before .before .before .before .before .before .before .before .before .before .before in
+    let a = s .args in
+    rw (c .cut-if3 .ensures, c .before .before .cut-if2 .ensures, c .before .before .before .before .cut-if .ensures, c .before .before .before .before .before .before .at .ensures)
+    (new-first (a .t6) (s .good .1 .1 .1 .1 .1 .0 .1 .0 .1) (a .k) (a .r) (a .n) (a .word) (a .row) (sym (c .before .before .before .before .before .before .before .before .before .before .is .ensures) ∙ c .before .before .before .before .before .before .before .before .before .if1 .left) (sym (c .before .before .before .before .before .before .before .before .is2 .ensures) ∙ c .before .before .before .before .before .before .before .if2 .taken))
+
+can-end-requires : tie.Need-can-end-requires
+can-end-requires c κs = search needs
+
+cut-each-requires : tie.Need-cut-each-requires
+cut-each-requires c κs = search needs
+
+returns-3 : tie.Need-returns-3
+returns-3 c = rw (c .cut-each .ensures) (kept-otherwise _ _ _ (sym (c .before .before .before .before .before .before .is .ensures) ∙ c .before .before .before .before .before .if1 .left) (sym (c .before .before .before .before .is2 .ensures) ∙ c .before .before .before .if2 .left))
+
+returns-4 : tie.Need-returns-4
+returns-4 c = let a = c .before .before .before .before .before .before .args in reads-untouched _ (sym (c .before .can-end .ensures) ∙ c .if3 .left) (a .r) (a .n) (a .word) (a .row) _
 
 pub reads-after-spec : {M : Type 1} → statement M
 reads-after-spec =
     tie.close
-    (tie.spec can-end-requires returns cut-each-requires at-requires reads-from-requires returns-2)
+    (tie.spec
+    is-requires
+    no-reads-requires
+    returns
+    is-requires-2
+    at-requires
+    array-copy-out-cut-if
+    cut-if-requires
+    array-copy-out-cut-if-2
+    cut-if-requires-2
+    array-copy-out-cut-if-3
+    cut-if-requires-3
+    returns-2
+    can-end-requires
+    cut-each-requires
+    returns-3
+    returns-4)
