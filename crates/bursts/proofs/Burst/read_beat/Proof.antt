@@ -1,15 +1,11 @@
-use mathlib.Core.Path.{sym, _∙_}
+-- `bursts::Burst::read_beat` meets its contract: a beat that was fetched since the registration, or none. Assumes nothing.
 use native.Mathlib.Omega.{arith}
+use mathlib.Core.Path.{sym, _∙_}
+use borrow.Author.Needs.{needs}
 use Rattle.bursts.specs.Burst.{read-beat}
 use Rattle.bursts.proofs.HasBeat.{fetched-late, fetched-since}
-use borrow.Author.Needs.{needs}
 use Rattle.bursts.proofs.Burst.read_beat.Statement.{statement}
 use Rattle.bursts.proofs.Burst.read_beat.Tie as tie
-use Rattle.bursts.proofs.Burst.read_beat.Reads as reads
-use Rattle.bursts.proofs.Burst.read_beat.Lts as lts
-use Rattle.bursts.proofs.Burst.reads_on.Reads as reads-on-reads
-use Rattle.bursts.proofs.beats.cells_at.Reads as cells-at-reads
-use Rattle.mode.proofs.latency.Reads as latency-reads
 
 reads-on-requires : tie.Need-reads-on-requires
 reads-on-requires c κs = search needs
