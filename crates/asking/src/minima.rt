@@ -117,20 +117,27 @@ fn short_other(period: Ps, ba: u8, i: u8, b: Bank, min: Ps, now: Ps) -> bool
     requires { ⌜ FitPeriod period × FitBank b × FitSpan min ⌝ }
     ensures { λ r. ⌜ r ≡ short-other period ba i b min now ⌝ }
 {
+    if i == ba {
+        return false;
+    }
     let active = b.active;
-    let short = since::short_since(period, active, min, now);
-    !(i == ba) & short
+    since::short_since(period, active, min, now)
 }
 
 pub fn short_others(period: Ps, ba: u8, banks: [Bank; 4], min: Ps, now: Ps) -> bool
     requires { ⌜ FitPeriod period × BanksFit banks × FitSpan min ⌝ }
     ensures { λ r. ⌜ r ≡ short-others period ba banks min now ⌝ }
 {
-    let a = short_other(period, ba, 0, banks[0], min, now);
-    let b = short_other(period, ba, 1, banks[1], min, now);
-    let c = short_other(period, ba, 2, banks[2], min, now);
-    let d = short_other(period, ba, 3, banks[3], min, now);
-    a | (b | (c | d))
+    if short_other(period, ba, 0, banks[0], min, now) {
+        return true;
+    }
+    if short_other(period, ba, 1, banks[1], min, now) {
+        return true;
+    }
+    if short_other(period, ba, 2, banks[2], min, now) {
+        return true;
+    }
+    short_other(period, ba, 3, banks[3], min, now)
 }
 
 // "ACTIVE: tRP since its closing; tRC since its last ACTIVE; tRRD since the last ACTIVE of another bank."
