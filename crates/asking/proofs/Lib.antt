@@ -1,6 +1,7 @@
 pub mod Lowest
 pub mod Events
 pub mod Ladders
+pub mod Moment
 pub mod Codes
 pub mod Asked
 pub mod Spans

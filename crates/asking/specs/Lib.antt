@@ -1,2 +1,3 @@
 pub mod Shorts
 pub mod Answers
+pub mod Moment

@@ -1,79 +1,42 @@
-use Rattle.rules.proofs.Admitted.{counted-fits}
-use Rattle.rules.specs.Rules.{every-rules}
-use borrow.Author.Tests.{eq-eqb, ne-eqb, lt-leb, le-leb}
+-- `asking::every::ask_every` meets its contract: what `ask_moment` answers, and then number 13. Assumes nothing.
+use Rattle.asking.proofs.Moment.{moment-then-13}
 use borrow.Author.Needs.{needs}
 use Rattle.asking.proofs.every.ask_every.Statement.{statement}
 use Rattle.asking.proofs.every.ask_every.Tie as tie
-use Rattle.asking.proofs.every.ask_every.Reads as reads
-use Rattle.asking.proofs.every.ask_every.Lts as lts
-use Rattle.asking.proofs.maxima.all_within.Reads as all-within-reads
-use Rattle.asking.proofs.maxima.within.Reads as within-reads
-use Rattle.rules.proofs.Verdict.refused.Reads as refused-reads
-use Rattle.parts.proofs.steps.counted_refresh.Reads as counted-refresh-reads
 
-refused-requires : tie.Need-refused-requires
-refused-requires c κs = search needs
+ask-moment-requires : tie.Need-ask-moment-requires
+ask-moment-requires c κs = search needs
+
+enum-told : tie.Need-enum-told
+enum-told c = search needs
+
+enum-told-2 : tie.Need-enum-told-2
+enum-told-2 c = search needs
 
 returns : tie.Need-returns
-unfolding every-rules
-returns c = rw (c .refused .ensures, ne-eqb _ _ (c .before .if1 .taken))
-
-refused-requires-2 : tie.Need-refused-requires-2
-refused-requires-2 c κs = search needs
-
-returns-2 : tie.Need-returns-2
-unfolding every-rules
-returns-2 c = rw (c .refused2 .ensures, eq-eqb _ _ (c .before .before .before .if1 .left), lt-leb _ _ (c .before .if2 .taken))
-
-refused-requires-3 : tie.Need-refused-requires-3
-refused-requires-3 c κs = search needs
-
-returns-3 : tie.Need-returns-3
-unfolding every-rules
-returns-3 c = rw (c .refused3 .ensures, eq-eqb _ _ (c .before .before .before .before .before .if1 .left), le-leb _ _ (c .before .before .before .if2 .left), ne-eqb _ _ (c .before .if3 .taken))
-
-counted-refresh-requires : tie.Need-counted-refresh-requires
-counted-refresh-requires c κs = search needs
-
-within-requires : tie.Need-within-requires
-within-requires c κs = (c .before .before .before .before .before .before .before .pre .0, rw (c .counted-refresh .ensures) (counted-fits (c .before .before .before .before .before .before .before .args .refreshes) (c .before .before .before .before .before .before .before .pre .1)))
+returns c = rw (moment-then-13, ← c .before .before .ask-moment .ensures, c .enum-told2 .given .1)
 
 all-within-requires : tie.Need-all-within-requires
 all-within-requires c κs = search needs
 
-returns-4 : tie.Need-returns-4
-unfolding every-rules
-returns-4 c = rw (eq-eqb _ _ (c .before .before .before .before .before .before .before .before .before .if1 .left), le-leb _ _ (c .before .before .before .before .before .before .before .if2 .left), eq-eqb _ _ (c .before .before .before .before .before .if3 .left), ← c .before .before .before .before .counted-refresh .ensures, ← c .before .before .before .within .ensures, c .before .before .if4 .taken, ← c .before .all-within .ensures, c .if5 .taken)
+returns-2 : tie.Need-returns-2
+returns-2 c = rw (moment-then-13, ← c .before .before .before .before .ask-moment .ensures, c .before .before .enum-told .given .1, ← c .before .all-within .ensures, c .if1 .taken)
 
-refused-requires-4 : tie.Need-refused-requires-4
-refused-requires-4 c κs = search needs
+refused-requires : tie.Need-refused-requires
+refused-requires c κs = search needs
 
-returns-5 : tie.Need-returns-5
-unfolding every-rules
-returns-5 c = rw (c .refused4 .ensures, eq-eqb _ _ (c .before .before .before .before .before .before .before .before .before .before .if1 .left), le-leb _ _ (c .before .before .before .before .before .before .before .before .if2 .left), eq-eqb _ _ (c .before .before .before .before .before .before .if3 .left), ← c .before .before .before .before .before .counted-refresh .ensures, ← c .before .before .before .before .within .ensures, c .before .before .before .if4 .taken, ← c .before .before .all-within .ensures, c .before .if5 .left)
-
-refused-requires-5 : tie.Need-refused-requires-5
-refused-requires-5 c κs = search needs
-
-returns-6 : tie.Need-returns-6
-unfolding every-rules
-returns-6 c = rw (c .refused5 .ensures, eq-eqb _ _ (c .before .before .before .before .before .before .before .before .if1 .left), le-leb _ _ (c .before .before .before .before .before .before .if2 .left), eq-eqb _ _ (c .before .before .before .before .if3 .left), ← c .before .before .before .counted-refresh .ensures, ← c .before .before .within .ensures, c .before .if4 .left)
+returns-3 : tie.Need-returns-3
+returns-3 c = rw (c .refused .ensures, moment-then-13, ← c .before .before .before .before .before .ask-moment .ensures, c .before .before .before .enum-told .given .1, ← c .before .before .all-within .ensures, c .before .if1 .left)
 
 pub ask-every-spec : {M : Type 1} → statement M
 ask-every-spec =
     tie.close
     (tie.spec
-    refused-requires
+    ask-moment-requires
+    enum-told
+    enum-told-2
     returns
-    refused-requires-2
-    returns-2
-    refused-requires-3
-    returns-3
-    counted-refresh-requires
-    within-requires
     all-within-requires
-    returns-4
-    refused-requires-4
-    returns-5
-    refused-requires-5
-    returns-6)
+    returns-2
+    refused-requires
+    returns-3)

@@ -1,11 +1,8 @@
+-- `asking::every::open_within` meets its contract: of an open bank by the time of its ACTIVE, and any other is kept. Assumes nothing.
 use native.Mathlib.Omega.{arith}
 use borrow.Author.Needs.{needs}
-use Rattle.asking.proofs.maxima.open_within.Statement.{statement}
-use Rattle.asking.proofs.maxima.open_within.Tie as tie
-use Rattle.asking.proofs.maxima.open_within.Reads as reads
-use Rattle.asking.proofs.maxima.open_within.Lts as lts
-use Rattle.parts.proofs.time.at.Reads as at-reads
-use Rattle.units.proofs.Ps.within.Reads as within-reads
+use Rattle.asking.proofs.every.open_within.Statement.{statement}
+use Rattle.asking.proofs.every.open_within.Tie as tie
 
 enum-told : tie.Need-enum-told
 enum-told c = search needs
