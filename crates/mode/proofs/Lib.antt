@@ -2,4 +2,3 @@ pub mod Shown
 pub mod Every
 pub mod Length
 pub mod Printed
-pub mod Rows

@@ -4,10 +4,10 @@ use mathlib.Core.Path.{_≡_, refl, ap, sym, _∙_}
 use mathlib.Core.Bool.{Bool, true, false, _&&_, cond}
 use mathlib.Core.List.{List, [], _∷_}
 use native.Mathlib.Omega.{arith}
-use lib.Bits.{bitXor}
-use lib.Dec.{T, leb, ltb, eqb}
+use lib.Bits.{bitAnd, bitXor}
+use lib.Dec.{leb, ltb, eqb}
 use lib.ListN.{length, getD, List·getD-eq-default}
-use borrow.Author.Tests.{leb-true, ltb-true, ltb-false, le-leb, lt-ltb}
+use borrow.Author.Tests.{leb-true, ltb-true, ltb-false, eqb-true, le-leb, lt-ltb}
 use Rattle.mode.specs.Word.{interleaved, length-of}
 use Rattle.mode.specs.Order.{
   sequential-1,
@@ -21,7 +21,7 @@ use Rattle.mode.specs.Order.{
   in-block,
 }
 use Rattle.mode.proofs.Every.{every-below, at-each, every-entry, at-any, first-holds, second-holds}
-use Rattle.mode.proofs.Length.{length-at, length-is-positive}
+use Rattle.mode.proofs.Length.{length-at, length-is-positive, place-by-mask}
 
 -- the table's column for a burst type (true: interleaved), its parts by M2 to M0
 abbrev printed : Bool → List (List (List ℕ))
@@ -35,21 +35,42 @@ part b k = getD (printed b) k []
 abbrev pub entry : Bool → ℕ → ℕ → ℕ → ℕ
 entry b k s i = getD (getD (part b k) s []) i 0
 
--- ── A guard against typing errors ──
+-- ── Two guards against typing errors; the second is also what the code computes ──
 
--- a part of length n has n rows of n; interleaved is exclusive or, and sequential the sum modulo the length
-abbrev well-printed : ℕ → Bool
-well-printed k =
-    eqb (length (part true k)) (length-at k)
-    && eqb (length (part false k)) (length-at k)
-    && every-below (length-at k)
-    (λ s. eqb (length (getD (part true k) s [])) (length-at k)
-    && eqb (length (getD (part false k) s [])) (length-at k)
-    && every-below (length-at k)
-    (λ i. eqb (entry true k s i) (bitXor s i) && eqb (entry false k s i) ((s + i) % length-at k)))
+-- a part of length n has n rows of n
+abbrev well-sized : Bool → ℕ → Bool
+well-sized b k =
+    eqb (length (part b k)) (length-at k)
+    && every-below (length-at k) (λ s. eqb (length (getD (part b k) s [])) (length-at k))
 
-pub interleaved-is-xor-and-sequential-is-sum : T (every-below 4 well-printed)
-interleaved-is-xor-and-sequential-is-sum = tt
+pub each-part-is-square : (b : Bool) → every-below 4 (well-sized b) ≡ true
+each-part-is-square true = refl
+each-part-is-square false = refl
+
+-- access i of row s of length n: interleaved is exclusive or, and sequential the sum modulo the length
+abbrev order : Bool → ℕ → ℕ → ℕ → ℕ
+order true n s i = bitXor s i
+order false n s i = (s + i) % n
+
+abbrev ordered-at : Bool → ℕ → ℕ → ℕ → Bool
+ordered-at b k s i = eqb (entry b k s i) (order b (length-at k) s i)
+
+abbrev ordered-row : Bool → ℕ → ℕ → Bool
+ordered-row b k s = every-below (length-at k) (ordered-at b k s)
+
+abbrev ordered-part : Bool → ℕ → Bool
+ordered-part b k = every-below (length-at k) (ordered-row b k)
+
+pub interleaved-is-xor-and-sequential-is-sum : (b : Bool) → every-below 4 (ordered-part b) ≡ true
+interleaved-is-xor-and-sequential-is-sum true = refl
+interleaved-is-xor-and-sequential-is-sum false = refl
+
+entry-is-order : (b : Bool) (k s i : ℕ) → k < 4 → s < length-at k → i < length-at k → entry b k s i ≡ order b (length-at k) s i
+entry-is-order b k s i short row place =
+    eqb-true (entry b k s i) (order b (length-at k) s i)
+    (at-each (length-at k) (ordered-at b k s)
+    (at-each (length-at k) (ordered-row b k)
+    (at-each 4 (ordered-part b) (interleaved-is-xor-and-sequential-is-sum b) k short) s row) i place)
 
 -- ── Past the table there is 0 ──
 
@@ -121,6 +142,19 @@ module _ (w s i n : ℕ) (e : n ≡ length-of w) (short : w % 8 ≤ 3) where
   pub no-place : n ≤ i → 0 ≡ in-block w s i
   unfolding length-of
   no-place h = sym (in-block-is-entry w s i ∙ past-the-row (interleaved w) (w % 8) s i (omega arith) (rw e at h))
+
+  -- by arithmetic: an exclusive or, and a sum under a mask
+  module _ (row : s < n) (place : i < n) where
+    by-order : (b : Bool) → interleaved w ≡ b → order b (length-of w) s i ≡ in-block w s i
+    unfolding length-of
+    by-order b h =
+        rw (in-block-is-entry w s i, h) (sym (entry-is-order b (w % 8) s i (omega arith) (rw e at row) (rw e at place)))
+
+    pub by-xor : interleaved w ≡ true → bitXor s i ≡ in-block w s i
+    by-xor = by-order true
+
+    pub by-sum : interleaved w ≡ false → bitAnd (s + i) (n - 1) ≡ in-block w s i
+    by-sum h = rw (e, place-by-mask) (by-order false h)
 
   in-block-is-below : in-block w s i < n
   unfolding length-of

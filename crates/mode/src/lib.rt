@@ -5,42 +5,6 @@ ghost use Rattle.mode.specs.Word.{full-page, length-of, interleaved, lat
 ghost use Rattle.mode.specs.Order.{in-block, beat-column};
 use units::COLUMNS;
 
-// 003 table 6. A row is a number whose digits are the order of accesses; the rows stand by burst length and by starting
-// column, length 1 by the table's note 7. First Type = Sequential, then Type = Interleaved.
-const ORDERS: [u32; 30] = [
-    0x0, // length 1
-    0x01, // length 2
-    0x10,
-    0x0123, // length 4
-    0x1230,
-    0x2301,
-    0x3012,
-    0x0123_4567, // length 8
-    0x1234_5670,
-    0x2345_6701,
-    0x3456_7012,
-    0x4567_0123,
-    0x5670_1234,
-    0x6701_2345,
-    0x7012_3456,
-    // Type = Interleaved
-    0x0, // length 1
-    0x01, // length 2
-    0x10,
-    0x0123, // length 4
-    0x1032,
-    0x2301,
-    0x3210,
-    0x0123_4567, // length 8
-    0x1032_5476,
-    0x2301_6745,
-    0x3210_7654,
-    0x4567_0123,
-    0x5476_1032,
-    0x6745_2301,
-    0x7654_3210,
-];
-
 // What a mode word that is not reserved says.
 pub struct Mode {
     pub length: u16,
@@ -148,8 +112,8 @@ pub fn block_place(w: u16, c: u16) -> u16
     c & (length_of(w) - 1)
 }
 
-// The column inside its block of beat i, from place s of the block: digit i of row s of 003 table 6. What the table
-// has no place for is 0.
+// The column inside its block of beat i, from place s of the block: access i of row s of 003 table 6, whose interleaved rows
+// are an exclusive or, and its sequential rows a sum inside the block. What the table has no place for is 0.
 pub fn in_block(w: u16, s: u16, i: u64) -> u16
     ensures { λ r. ⌜ r ≡ in-block w s i ⌝ }
 {
@@ -163,9 +127,11 @@ pub fn in_block(w: u16, s: u16, i: u64) -> u16
     if (length as u64) <= i {
         return 0;
     }
-    let row = 15 * (w / 8 % 2) + (length - 1 + s);
-    let digit = 4 * (length - 1 - i as u16);
-    ((ORDERS[row as usize] >> digit) % 16) as u16
+    let beat = i as u16;
+    if interleaved(w) {
+        return s ^ beat;
+    }
+    (s + beat) & (length - 1)
 }
 
 // The column of beat i of a burst from column c. "Full page wraps at 2,048 columns and goes on without end."
