@@ -32,7 +32,7 @@ abbrev part : Bool → ℕ → List (List ℕ)
 part b k = getD (printed b) k []
 
 -- access i of row s
-abbrev pub entry : Bool → ℕ → ℕ → ℕ → ℕ
+abbrev entry : Bool → ℕ → ℕ → ℕ → ℕ
 entry b k s i = getD (getD (part b k) s []) i 0
 
 -- ── Two guards against typing errors; the second is also what the code computes ──
@@ -124,7 +124,7 @@ module _ (b : Bool) (k s i : ℕ) (short : k < 4) where
 
 -- ── The same of the definition, for a mode word and its length n ──
 
-pub in-block-is-entry : (w s i : ℕ) → in-block w s i ≡ entry (interleaved w) (w % 8) s i
+in-block-is-entry : (w s i : ℕ) → in-block w s i ≡ entry (interleaved w) (w % 8) s i
 in-block-is-entry w s i = go (interleaved w)
   where
     go : (b : Bool) → getD (getD (cond b (part true (w % 8)) (part false (w % 8))) s []) i 0 ≡ entry b (w % 8) s i

@@ -112,8 +112,8 @@ pub fn block_place(w: u16, c: u16) -> u16
     c & (length_of(w) - 1)
 }
 
-// The column inside its block of beat i, from place s of the block: access i of row s of 003 table 6, whose interleaved rows
-// are an exclusive or, and its sequential rows a sum inside the block. What the table has no place for is 0.
+// The column inside its block of beat i, from place s of the block: access i of row s of 003 table 6. Interleaved, that is
+// an exclusive or; sequential, the sum inside the block. What the table has no place for is 0.
 pub fn in_block(w: u16, s: u16, i: u64) -> u16
     ensures { λ r. ⌜ r ≡ in-block w s i ⌝ }
 {
