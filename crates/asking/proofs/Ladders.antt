@@ -20,7 +20,7 @@ use Rattle.layout.specs.declared.Command.the-variants.{
   Refresh,
   LoadMode,
 }
-use Rattle.layout.specs.Commands.{a10, is, access, precharge-all}
+use Rattle.layout.specs.Commands.{is, access, precharge-all}
 use Rattle.mode.specs.Word.{legal}
 use Rattle.bursts.specs.Bus.{bursts-finished, bus-clear}
 use Rattle.rules.specs.declared.StartUp.{StartUp}
@@ -160,29 +160,39 @@ module _ (t : SpeedTable) (c : Core) (bs : List Bank) (r : Record) (n : Clock) (
 
   -- ── After it ──
 
+  -- 15 and 16 of ACTIVE
+  abbrev pub active-answer : Verdict
+  active-answer =
+      cond (is-closed (bank-at bs (r .ba) .status))
+      (lowest (either (shorts t (c .period) now (of-any (c .period) (c .startup))) (shorts t (c .period) now (of-active (c .period) (r .ba) bs))))
+      (Refused 15 0)
+
+  -- 15 to 22 of WRITE, READ and BURST TERMINATE
+  abbrev pub burst-answer : Command → Verdict
+  burst-answer k =
+      cond (access k ⇒ is-open (bank-at bs (r .ba) .status))
+      (then
+      (lowest
+      (either (shorts t (c .period) now (of-any (c .period) (c .startup))) (shorts t (c .period) now (only (access k) (of-access (c .period) (bank-at bs (r .ba)))))))
+      (first-broken (bus-rules k t c (bank-at bs (r .ba) .status) r n)))
+      (Refused 15 0)
+
   module _ (b : begun (c .startup) ≡ true) where
     minima-begun : (k : Command) → minima k (c .period) (c .startup) r bs ≡ events k (c .period) (c .startup) r bs
     unfolding minima
     minima-begun k = rw b
 
-    pub active-ladder : first-broken (command-rules Active t c bs r n now)
+    begun-active : first-broken (command-rules Active t c bs r n now)
         ≡ cond (started (c .startup))
-        (cond (is-closed (bank-at bs (r .ba) .status))
-        (lowest (either (shorts t (c .period) now (of-any (c .period) (c .startup))) (shorts t (c .period) now (of-active (c .period) (r .ba) bs))))
-        (Refused 15 0))
+        active-answer
         (Refused 14 0)
     unfolding allowed banks-found mode-rules bus-rules
-    active-ladder = rw (ladder Active t c bs r n now, minima-begun Active, events-active, then-taken, b, and-true, and-true)
+    begun-active = rw (ladder Active t c bs r n now, minima-begun Active, events-active, then-taken, b, and-true, and-true)
 
     begun-burst : (k : Command) → (access k || is k Terminate) ≡ true
         → first-broken (command-rules k t c bs r n now)
         ≡ cond (started (c .startup))
-        (cond (access k ⇒ is-open (bank-at bs (r .ba) .status))
-        (then
-        (lowest
-        (either (shorts t (c .period) now (of-any (c .period) (c .startup))) (shorts t (c .period) now (only (access k) (of-access (c .period) (bank-at bs (r .ba)))))))
-        (first-broken (bus-rules k t c (bank-at bs (r .ba) .status) r n)))
-        (Refused 15 0))
+        (burst-answer k)
         (Refused 14 0)
     unfolding allowed banks-found mode-rules
     begun-burst Inhibit h = absurd (true≢false (sym h))
@@ -217,17 +227,28 @@ module _ (t : SpeedTable) (c : Core) (bs : List Bank) (r : Record) (n : Clock) (
     unfolding allowed banks-found bus-rules
     load-ladder = rw (ladder LoadMode t c bs r n now, minima-begun LoadMode, events-load, then-taken, b, and-true)
 
+  -- ── ACTIVE, before it or after ──
+
+  pub active-ladder : first-broken (command-rules Active t c bs r n now)
+      ≡ cond (begun (c .startup) && started (c .startup))
+      active-answer
+      (Refused 14 0)
+  active-ladder = go (begun (c .startup)) refl
+    where
+      go : (x : Bool) → begun (c .startup) ≡ x
+          → first-broken (command-rules Active t c bs r n now)
+          ≡ cond (begun (c .startup) && started (c .startup))
+          active-answer
+          (Refused 14 0)
+      go true b = rw b (begun-active b)
+      go false b = rw (unbegun Active b, b)
+
   -- ── WRITE, READ and BURST TERMINATE, before it or after ──
 
   pub burst-ladder : (k : Command) → (access k || is k Terminate) ≡ true
       → first-broken (command-rules k t c bs r n now)
       ≡ cond (begun (c .startup) && started (c .startup))
-      (cond (access k ⇒ is-open (bank-at bs (r .ba) .status))
-      (then
-      (lowest
-      (either (shorts t (c .period) now (of-any (c .period) (c .startup))) (shorts t (c .period) now (only (access k) (of-access (c .period) (bank-at bs (r .ba)))))))
-      (first-broken (bus-rules k t c (bank-at bs (r .ba) .status) r n)))
-      (Refused 15 0))
+      (burst-answer k)
       (Refused 14 0)
   burst-ladder k h = go (begun (c .startup)) refl
     where
@@ -245,13 +266,7 @@ module _ (t : SpeedTable) (c : Core) (bs : List Bank) (r : Record) (n : Clock) (
       go : (x : Bool) → begun (c .startup) ≡ x
           → first-broken (command-rules k t c bs r n now)
           ≡ cond (begun (c .startup) && started (c .startup))
-          (cond (access k ⇒ is-open (bank-at bs (r .ba) .status))
-          (then
-          (lowest
-          (either (shorts t (c .period) now (of-any (c .period) (c .startup)))
-          (shorts t (c .period) now (only (access k) (of-access (c .period) (bank-at bs (r .ba)))))))
-          (first-broken (bus-rules k t c (bank-at bs (r .ba) .status) r n)))
-          (Refused 15 0))
+          (burst-answer k)
           (Refused 14 0)
       go true b = rw b (begun-burst b k h)
       go false b = rw (unbegun k b, no-precharge k h, b)

@@ -27,31 +27,6 @@ use units::Ps;
 // "That command must stand at 100,000,000 ps or later."
 const POWER_UP: u64 = 100_000_000;
 
-fn ask_active(
-    t: SpeedTable,
-    c: Core,
-    own: Bank,
-    all: [Bank; 4],
-    r: Record,
-    n: Clock,
-    now: Ps,
-) -> Verdict
-    requires { ⌜ Call t c all r × (begun (c .startup) ≡ true) × (own ≡ bank-at all (r .ba)) ⌝ }
-    ensures { λ x. ⌜ x ≡ first-broken (command-rules Command.Active t c all r n now) ⌝ }
-{
-    let startup = c.startup;
-    if steps::started(startup) {
-        let status = own.status;
-        if banks::is_closed(status) {
-            let any = minima::any_shorts(t, c.period, startup, now);
-            let others = minima::active_shorts(t, c.period, r.ba, own, all, now);
-            return minima::lowest(minima::either(any, others));
-        }
-        return Verdict::refused(15);
-    }
-    Verdict::refused(14)
-}
-
 fn ask_precharge(t: SpeedTable, c: Core, all: [Bank; 4], r: Record, n: Clock, now: Ps) -> Verdict
     requires { ⌜ Call t c all r × (begun (c .startup) ≡ true) ⌝ }
     ensures { λ x. ⌜ x ≡ first-broken (command-rules Command.Precharge t c all r n now) ⌝ }
@@ -96,24 +71,20 @@ fn ask_load_mode(t: SpeedTable, c: Core, all: [Bank; 4], r: Record, n: Clock, no
     Verdict::refused(14)
 }
 
-// LOAD MODE, AUTO REFRESH, PRECHARGE and ACTIVE after the first PRECHARGE ALL.
+// LOAD MODE, AUTO REFRESH and PRECHARGE after the first PRECHARGE ALL.
 fn ask_begun(
     k: Command,
     t: SpeedTable,
     c: Core,
-    own: Bank,
     all: [Bank; 4],
     r: Record,
     n: Clock,
     now: Ps,
 ) -> Verdict
-    requires { ⌜ Call t c all r × (begun (c .startup) ≡ true) × (own ≡ bank-at all (r .ba)) × (code-of k < 4) ⌝ }
+    requires { ⌜ Call t c all r × (begun (c .startup) ≡ true) × (code-of k < 3) ⌝ }
     ensures { λ x. ⌜ x ≡ first-broken (command-rules k t c all r n now) ⌝ }
 {
     let code = layout::code_of(k);
-    if code == 3 {
-        return ask_active(t, c, own, all, r, n, now);
-    }
     if code == 2 {
         return ask_precharge(t, c, all, r, n, now);
     }
@@ -143,9 +114,28 @@ fn ask_first(
     Verdict::refused(14)
 }
 
-// 14 to 18 of LOAD MODE, AUTO REFRESH, PRECHARGE and ACTIVE, which move no data.
+// 14 to 18 of LOAD MODE, AUTO REFRESH and PRECHARGE, which look at each of the four banks.
 pub fn ask_banks(
     k: Command,
+    t: SpeedTable,
+    c: Core,
+    all: [Bank; 4],
+    r: Record,
+    n: Clock,
+    now: Ps,
+) -> Verdict
+    requires { ⌜ Call t c all r × (code-of k < 3) ⌝ }
+    ensures { λ x. ⌜ x ≡ first-broken (command-rules k t c all r n now) ⌝ }
+{
+    let startup = c.startup;
+    if steps::begun(startup) {
+        return ask_begun(k, t, c, all, r, n, now);
+    }
+    ask_first(k, t, c, all, r, n, now)
+}
+
+// 14 to 16 of ACTIVE.
+pub fn ask_active(
     t: SpeedTable,
     c: Core,
     own: Bank,
@@ -154,14 +144,22 @@ pub fn ask_banks(
     n: Clock,
     now: Ps,
 ) -> Verdict
-    requires { ⌜ Call t c all r × (own ≡ bank-at all (r .ba)) × (code-of k < 4) ⌝ }
-    ensures { λ x. ⌜ x ≡ first-broken (command-rules k t c all r n now) ⌝ }
+    requires { ⌜ Call t c all r × (own ≡ bank-at all (r .ba)) ⌝ }
+    ensures { λ x. ⌜ x ≡ first-broken (command-rules Command.Active t c all r n now) ⌝ }
 {
     let startup = c.startup;
     if steps::begun(startup) {
-        return ask_begun(k, t, c, own, all, r, n, now);
+        if steps::started(startup) {
+            let status = own.status;
+            if banks::is_closed(status) {
+                let any = minima::any_shorts(t, c.period, startup, now);
+                let others = minima::active_shorts(t, c.period, r.ba, own, all, now);
+                return minima::lowest(minima::either(any, others));
+            }
+            return Verdict::refused(15);
+        }
     }
-    ask_first(k, t, c, all, r, n, now)
+    Verdict::refused(14)
 }
 
 // 14 to 22 of WRITE, READ and BURST TERMINATE. BURST TERMINATE names no bank.

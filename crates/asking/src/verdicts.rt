@@ -100,7 +100,7 @@ pub fn bus_verdict(
     let reads = bus.reads;
     if databus::bursts_finished(write, reads, n) {
         if clear_for(k, c, n) {
-            if layout::is_access(k) & layout::a10(r.addr) {
+            if closing::asks_auto(k, r) {
                 return auto_verdict(k, t, c, status, n);
             }
             return Verdict::Taken;

@@ -29,9 +29,13 @@ fn ask_command(
     requires { ⌜ Call t c all r × (n .0 ≤ clock-max) ⌝ }
     ensures { λ x. ⌜ x ≡ first-broken (asked (executable k) (command-rules k t c all r n now)) ⌝ }
 {
+    let code = layout::code_of(k);
+    if code < 3 {
+        return commands::ask_banks(k, t, c, all, r, n, now);
+    }
     let own = all[r.ba as usize];
-    if layout::code_of(k) < 4 {
-        return commands::ask_banks(k, t, c, own, all, r, n, now);
+    if code == 3 {
+        return commands::ask_active(t, c, own, all, r, n, now);
     }
     if layout::is_executable(k) {
         return commands::ask_burst(k, t, c, own, all, r, n, now);

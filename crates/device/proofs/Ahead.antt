@@ -6,7 +6,6 @@ use mathlib.Core.List.{List, [], _∷_}
 use lib.ListN.{length, take, drop, length-drop}
 use lib.Seq.{take-all, take-take}
 use borrow.Author.Tests.{le-leb, lt-leb}
-use Rattle.layout.specs.declared.Record.{Record}
 use Rattle.layout.specs.Bytes.{number-after, word-at, record-from, record-of}
 use Rattle.device.specs.declared.Words.{Words}
 use Rattle.device.specs.InPlace.{words-ahead}

@@ -7,6 +7,7 @@ use mathlib.Core.List.{List, _∷_}
 use lib.ListN.{take, drop}
 use lib.Seq.{drop-drop}
 use Rattle.units.specs.declared.Clock.{Clock}
+use Rattle.units.specs.Time.{at}
 use Rattle.layout.specs.declared.Record.{Record}
 use Rattle.layout.specs.Bytes.{record-of, records-of}
 use Rattle.layout.specs.Widths.{Widths}
@@ -15,9 +16,12 @@ use Rattle.bursts.specs.declared.Beat.{Beat}
 use Rattle.page.specs.Store.{stored}
 use Rattle.rules.specs.declared.State.{State}
 use Rattle.rules.specs.declared.Setup.{Setup}
+use Rattle.rules.specs.declared.Core.{Core}
+use Rattle.rules.specs.declared.Verdict.{Verdict}
 use Rattle.rules.specs.declared.Verdict.the-variants.{Taken, Refused}
+use Rattle.rules.specs.Numbers.{first-broken}
 use Rattle.rules.specs.Parts.{clock-of}
-use Rattle.rules.specs.Rules.{ask}
+use Rattle.rules.specs.Rules.{rules, ask}
 use Rattle.rules.specs.After.{own-beat, core-from, core-after, next}
 use Rattle.rules.specs.Run.{line}
 use Rattle.parts.specs.Reach.{Able, Call}
@@ -60,6 +64,12 @@ able-next u s count r a w p =
           (a .state) p;
       room = omega (arith, a .room, next-number u s r);
     }
+
+-- what asking gives by its parts is the record's verdict
+pub asked-as : (u : Setup) (s : State) (r : Record) {c : Core} {n : Clock} {v : Verdict} → c ≡ s .core → n ≡ clock-of (s .core) r
+    → v ≡ first-broken (rules (u .table) c (s .banks) r n (at (c .period) n)) → ask u s r ≡ v
+unfolding ask
+asked-as u s r hc hn hv = sym (hv ∙ (λ i. first-broken (rules (u .table) (hc i) (s .banks) r (hn i) (at (hc i .period) (hn i)))))
 
 -- ── The fold ──
 

@@ -1,7 +1,7 @@
 // Records of a lent slice, one after another: what each reports, and the loop.
 ghost use mathlib.Core.Path.{_≡_};
 ghost use Prim.Native.Nat.{_≤_, _*_, _+_};
-ghost use lib.ListN.{length, set};
+ghost use lib.ListN.{length, set, drop};
 ghost use Rattle.layout.specs.Bytes.{records-of};
 ghost use Rattle.rules.specs.Numbers.{first-broken};
 ghost use Rattle.rules.specs.Parts.{start};
@@ -12,13 +12,12 @@ ghost use Rattle.device.specs.InPlace.{words-ahead, whole, core-of};
 use crate::Device;
 use crate::Words;
 use crate::single;
-use asking::commands;
-use asking::every;
 use bursts::Beat;
 use bursts::Bus;
 use bursts::Cells;
 use bursts::databus;
 use bursts::reads;
+use packed::inplace;
 use parts::time;
 use rules::Bank;
 use rules::Core;
@@ -93,6 +92,15 @@ fn words_of(bytes: &[u8]) -> Words
     Words { first, second }
 }
 
+// The words of record j, or zeros past the last.
+fn words_at(bytes: &[u8], j: usize) -> Words
+    requires { ⌜ 16 * j ≤ length (now bytes) ⌝ }
+    ensures { λ x. ⌜ x ≡ words-ahead (drop (16 * j) (now (bytes .entry))) ⌝ }
+{
+    let next = 16 * j;
+    words_of(&bytes[next..])
+}
+
 // All but the banks; period, watched bank and row stay as they are in c.
 fn core_of(c: Core, number: u64, last: Event, startup: StartUp, bus: Bus) -> Core
     ensures { λ x. ⌜ x ≡ core-of c number last startup bus ⌝ }
@@ -116,9 +124,8 @@ fn ended(verdict: Verdict, reported: u64) -> Ran
 }
 
 // `count` records from a state, each asked and taken in its turn, up to the first that is refused. The state is held in its
-// parts and changed in place: most records leave most of it, and to build it anew for each cost more than judging it. For the
-// same reason a command is asked here, and not behind one call that would be given the whole state; and a record's two words are
-// read a turn ahead, where each is one load.
+// parts and changed in place: most records leave most of it, and to build it anew for each cost more than judging it. The banks
+// are held as numbers for the same reason, and a record's two words are read a turn ahead, where each is one load.
 fn fold(
     u: Setup,
     core: Core,
@@ -132,76 +139,41 @@ fn fold(
     ensures { λ x. ⌜ left x (now (page .exit)) (now (beats .exit)) ≡ fold u (whole core banks) (records-of count (now (bytes .entry))) (now (page .entry)) (now (beats .entry)) ⌝ }
 {
     let t = u.table;
-    let period = core.period;
     let mut number = core.number;
     let mut last = core.last;
     let mut startup = core.startup;
     let mut bus = core.bus;
-    let mut all = banks;
-    let mut words = words_of(bytes);
+    let mut held = inplace::hold(banks);
+    let mut words = words_at(bytes, 0);
     let mut j = 0;
     while j < count {
         let r = layout::record_from(words.first, words.second);
         let n = time::clock_of(last, r.skipped);
-        let now = time::at(period, n);
-        let refreshes = startup.refreshes;
-        let v = every::ask_every(t, period, refreshes, all, r, n, now);
+        let c = core_of(core, number, last, startup, bus);
+        let v = inplace::ask(t, c, &held, r, n);
         let Verdict::Taken = v else {
             return ended(v, number);
         };
         let k = layout::command_of(r.code);
-        let code = layout::code_of(k);
-        let held = bus.masks;
-        // LOAD MODE, AUTO REFRESH, PRECHARGE, ACTIVE
-        if code < 4 {
-            let own = all[r.ba as usize];
-            let c = core_of(core, number, last, startup, bus);
-            let v = commands::ask_banks(k, t, c, own, all, r, n, now);
-            let Verdict::Taken = v else {
-                return ended(v, number);
-            };
-        }
-        // WRITE, READ, BURST TERMINATE
-        if (3 < code) & (code < 7) {
-            let own = all[r.ba as usize];
-            let c = core_of(core, number, last, startup, bus);
-            let v = commands::ask_burst(k, t, c, own, all, r, n, now);
-            let Verdict::Taken = v else {
-                return ended(v, number);
-            };
-        }
+        let masks = bus.masks;
         if reads::can_end(k) {
-            let own = all[r.ba as usize];
-            bus = leaving::bus_moved(k, r, n, startup, own, bus);
+            bus = inplace::move_bus(k, r, n, startup, &held, bus);
         }
-        if leaving::closes_itself(k, r) {
-            let own = all[r.ba as usize];
-            all[r.ba as usize] = leaving::self_closed(k, t, period, startup, n, own);
-        }
-        // ACTIVE, and then the three below it
-        if code == 3 {
-            all[r.ba as usize] = leaving::activated(r.addr, n);
-        }
-        if code < 3 {
-            all = leaving::banks_moved(k, t, period, startup, r, n, all);
+        if layout::is_executable(k) {
+            inplace::move_banks(k, t, core.period, startup, r, n, &mut held);
             startup = leaving::startup_after(k, r, n, startup);
         }
-        bus.masks = held.after(r.skipped, r.masks);
+        bus.masks = masks.after(r.skipped, r.masks);
         let write = bus.write;
         let driven = bus.reads;
-        let beat = databus::beat_on(last, held, write, driven, r.masks, n);
-        if leaving::stores(beat) {
-            let i = leaving::bank_of(beat);
-            let b = all[i as usize];
-            all[i as usize] = leaving::marked(true, n, b);
-        }
+        let beat = databus::beat_on(last, masks, write, driven, r.masks, n);
+        inplace::mark_bank(beat, n, &mut held);
         page::stored(core.bank, core.row, r.dq, beat, page);
         report(beats, number, beat, n);
         last = Event::On(n);
         number += 1;
         j += 1;
-        let next = 16 * j;
-        words = words_of(&bytes[next..]);
+        words = words_at(bytes, j);
     }
     ended(Verdict::Taken, number)
 }

@@ -3,10 +3,11 @@ ghost use mathlib.Core.Path.{_≡_};
 ghost use Prim.Native.Nat.{_≤_};
 ghost use Rattle.speed.specs.Bounds.{Bounds};
 ghost use Rattle.parts.specs.Reach.{FitPeriod};
-ghost use Rattle.rules.specs.Rules.{clock-max};
+ghost use Rattle.rules.specs.Rules.{clock-max, asks-auto};
 ghost use Rattle.rules.specs.Closing.{burst-end, closing-time, ends-by-itself};
 use crate::time;
 use layout::Command;
+use layout::Record;
 use speed::SpeedTable;
 use units::Clock;
 use units::Ps;
@@ -42,4 +43,11 @@ pub fn ends_by_itself(k: Command, word: u16) -> bool
     let full = mode::full_page(word);
     let single = mode::single(word);
     !full | ((layout::code_of(k) == 4) & single)
+}
+
+// A READ or WRITE with auto precharge.
+pub fn asks_auto(k: Command, r: Record) -> bool
+    ensures { λ x. ⌜ x ≡ asks-auto k r ⌝ }
+{
+    layout::is_access(k) & layout::a10(r.addr)
 }

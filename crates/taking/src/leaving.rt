@@ -182,7 +182,7 @@ fn bank_after(
         return activated(r.addr, n);
     }
     let status = b.status;
-    if closes_itself(k, r) & own {
+    if closing::asks_auto(k, r) & own {
         return with_status(auto_closed(t, period, end, status), b);
     }
     let covered = layout::covers(r.addr, r.ba, i);
@@ -197,7 +197,7 @@ fn touches(k: Command, r: Record) -> bool
     ensures { λ x. ⌜ x ≡ (is k Active || (asks-auto k r || is k Precharge)) ⌝ }
 {
     let code = layout::code_of(k);
-    (code == 3) | (closes_itself(k, r) | (code == 2))
+    (code == 3) | (closing::asks_auto(k, r) | (code == 2))
 }
 
 // The banks after the command.
@@ -247,23 +247,22 @@ pub fn bus_moved(k: Command, r: Record, n: Clock, startup: StartUp, own: Bank, b
     databus::bus_after(k, r, n, word, row, bus)
 }
 
-// The record's own bank after a READ or WRITE with auto precharge.
+// The status of the record's own bank after a READ or WRITE with auto precharge.
 pub fn self_closed(
     k: Command,
     t: SpeedTable,
     period: Ps,
     startup: StartUp,
     n: Clock,
-    own: Bank,
-) -> Bank
-    requires { ⌜ Bounds t × FitPeriod period × FitBank own × (n .0 ≤ clock-max) ⌝ }
-    ensures { λ x. ⌜ x ≡ with-status (auto-closed t period (burst-end k t period (word-in (startup .register)) n) (own .status)) own ⌝ }
+    x: Status,
+) -> Status
+    requires { ⌜ Bounds t × FitPeriod period × FitStatus x × (n .0 ≤ clock-max) ⌝ }
+    ensures { λ r. ⌜ r ≡ auto-closed t period (burst-end k t period (word-in (startup .register)) n) x ⌝ }
 {
     let register = startup.register;
     let word = steps::word_in(register);
     let end = closing::burst_end(k, t, period, word, n);
-    let status = own.status;
-    with_status(auto_closed(t, period, end, status), own)
+    auto_closed(t, period, end, x)
 }
 
 // The four banks after the command.
@@ -307,11 +306,4 @@ pub fn bank_of(w: Beat) -> u8
         Beat::Stores(c) => c.bank,
         Beat::Drives(_) => 0,
     }
-}
-
-// A READ or WRITE with auto precharge.
-pub fn closes_itself(k: Command, r: Record) -> bool
-    ensures { λ x. ⌜ x ≡ asks-auto k r ⌝ }
-{
-    layout::is_access(k) & layout::a10(r.addr)
 }

@@ -14,7 +14,7 @@ begun-requires c κs = search needs
 
 -- src/commands.rt:163:9
 ask-begun-requires : tie.Need-ask-begun-requires
-ask-begun-requires c κs = (c .before .before .before .pre .0, sym (c .before .begun .ensures) ∙ c .if1 .taken, c .before .before .before .pre .1, c .before .before .before .pre .2)
+ask-begun-requires c κs = (c .before .before .before .pre .0, sym (c .before .begun .ensures) ∙ c .if1 .taken, c .before .before .before .pre .1)
 
 -- src/commands.rt:163:9
 returns : tie.Need-returns

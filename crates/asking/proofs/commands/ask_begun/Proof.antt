@@ -6,58 +6,47 @@ use Rattle.asking.proofs.commands.ask_begun.Statement.{statement}
 use Rattle.asking.proofs.commands.ask_begun.Tie as tie
 use Rattle.asking.proofs.commands.ask_begun.Reads as reads
 use Rattle.asking.proofs.commands.ask_begun.Lts as lts
-use Rattle.asking.proofs.commands.ask_active.Reads as ask-active-reads
 use Rattle.asking.proofs.commands.ask_load_mode.Reads as ask-load-mode-reads
 use Rattle.asking.proofs.commands.ask_precharge.Reads as ask-precharge-reads
 use Rattle.asking.proofs.commands.ask_refresh.Reads as ask-refresh-reads
 use Rattle.layout.proofs.code_of.Reads as code-of-reads
 
--- src/commands.rt:114:9
+-- src/commands.rt:87:9
 code-of-requires : tie.Need-code-of-requires
 code-of-requires c κs = search needs
 
--- src/commands.rt:116:9
-ask-active-requires : tie.Need-ask-active-requires
-ask-active-requires c κs = search needs
-
--- src/commands.rt:116:9
-returns : tie.Need-returns
-returns c = rw (coded (c .before .before .before .args .k) 3 (sym (c .before .before .code-of .ensures) ∙ c .before .if1 .taken)) (c .ask-active .ensures)
-
--- src/commands.rt:119:9
+-- src/commands.rt:89:9
 ask-precharge-requires : tie.Need-ask-precharge-requires
 ask-precharge-requires c κs = search needs
 
--- src/commands.rt:119:9
-returns-2 : tie.Need-returns-2
-returns-2 c = rw (coded (c .before .before .before .before .args .k) 2 (sym (c .before .before .before .code-of .ensures) ∙ c .before .if2 .taken)) (c .ask-precharge .ensures)
+-- src/commands.rt:89:9
+returns : tie.Need-returns
+returns c = rw (coded (c .before .before .before .args .k) 2 (sym (c .before .before .code-of .ensures) ∙ c .before .if1 .taken)) (c .ask-precharge .ensures)
 
--- src/commands.rt:122:9
+-- src/commands.rt:92:9
 ask-refresh-requires : tie.Need-ask-refresh-requires
 ask-refresh-requires c κs = search needs
 
--- src/commands.rt:122:9
-returns-3 : tie.Need-returns-3
-returns-3 c = rw (coded (c .before .before .before .before .before .args .k) 1 (sym (c .before .before .before .before .code-of .ensures) ∙ c .before .if3 .taken)) (c .ask-refresh .ensures)
+-- src/commands.rt:92:9
+returns-2 : tie.Need-returns-2
+returns-2 c = rw (coded (c .before .before .before .before .args .k) 1 (sym (c .before .before .before .code-of .ensures) ∙ c .before .if2 .taken)) (c .ask-refresh .ensures)
 
--- src/commands.rt:124:5
+-- src/commands.rt:94:5
 ask-load-mode-requires : tie.Need-ask-load-mode-requires
 ask-load-mode-requires c κs = search needs
 
--- src/commands.rt:101:1
-returns-4 : tie.Need-returns-4
-returns-4 c = rw (coded (c .before .before .before .before .before .args .k) 0 (omega (arith, c .before .before .before .before .before .pre .3, c .before .before .before .before .code-of .ensures, c .before .before .before .if1 .left, c .before .before .if2 .left, c .before .if3 .left))) (c .ask-load-mode .ensures)
+-- src/commands.rt:75:1
+returns-3 : tie.Need-returns-3
+returns-3 c = rw (coded (c .before .before .before .before .args .k) 0 (omega (arith, c .before .before .before .before .pre .2, c .before .before .before .code-of .ensures, c .before .before .if1 .left, c .before .if2 .left))) (c .ask-load-mode .ensures)
 
 pub ask-begun-spec : {M : Type 1} → statement M
 ask-begun-spec =
     tie.close
     (tie.spec
     code-of-requires
-    ask-active-requires
-    returns
     ask-precharge-requires
-    returns-2
+    returns
     ask-refresh-requires
-    returns-3
+    returns-2
     ask-load-mode-requires
-    returns-4)
+    returns-3)

@@ -1,5 +1,5 @@
-use Rattle.asking.proofs.Ladders.{bus-ladder}
 use Rattle.asking.proofs.Codes.{is-burst}
+use Rattle.asking.proofs.Ladders.{bus-ladder}
 use borrow.Author.Needs.{needs}
 use Rattle.asking.proofs.verdicts.bus_verdict.Statement.{statement}
 use Rattle.asking.proofs.verdicts.bus_verdict.Tie as tie
@@ -8,8 +8,7 @@ use Rattle.asking.proofs.verdicts.bus_verdict.Lts as lts
 use Rattle.asking.proofs.verdicts.auto_verdict.Reads as auto-verdict-reads
 use Rattle.asking.proofs.verdicts.clear_for.Reads as clear-for-reads
 use Rattle.bursts.proofs.databus.bursts_finished.Reads as bursts-finished-reads
-use Rattle.layout.proofs.a10.Reads as a10-reads
-use Rattle.layout.proofs.is_access.Reads as is-access-reads
+use Rattle.parts.proofs.closing.asks_auto.Reads as asks-auto-reads
 use Rattle.rules.proofs.Verdict.refused.Reads as refused-reads
 
 -- src/verdicts.rt:101:8
@@ -21,12 +20,8 @@ clear-for-requires : tie.Need-clear-for-requires
 clear-for-requires c κs = search needs
 
 -- src/verdicts.rt:103:16
-is-access-requires : tie.Need-is-access-requires
-is-access-requires c κs = search needs
-
--- src/verdicts.rt:103:39
-a10-requires : tie.Need-a10-requires
-a10-requires c κs = search needs
+asks-auto-requires : tie.Need-asks-auto-requires
+asks-auto-requires c κs = search needs
 
 -- src/verdicts.rt:104:17
 auto-verdict-requires : tie.Need-auto-verdict-requires
@@ -34,11 +29,11 @@ auto-verdict-requires c κs = search needs
 
 -- src/verdicts.rt:104:17
 returns : tie.Need-returns
-returns c = rw (c .auto-verdict .ensures, bus-ladder (c .before .before .before .before .before .before .before .before .before .before .before .args .k) (is-burst (c .before .before .before .before .before .before .before .before .before .before .before .args .k) (c .before .before .before .before .before .before .before .before .before .before .before .pre .4) (c .before .before .before .before .before .before .before .before .before .before .before .pre .5)), ← c .before .before .before .before .before .before .before .bursts-finished .ensures, c .before .before .before .before .before .before .if1 .taken, ← c .before .before .before .before .before .clear-for .ensures, c .before .before .before .before .if2 .taken, ← c .before .before .before .is-access .ensures, ← c .before .before .a10 .ensures, c .before .if3 .taken)
+returns c = rw (c .auto-verdict .ensures, bus-ladder (c .before .before .before .before .before .before .before .before .before .before .args .k) (is-burst (c .before .before .before .before .before .before .before .before .before .before .args .k) (c .before .before .before .before .before .before .before .before .before .before .pre .4) (c .before .before .before .before .before .before .before .before .before .before .pre .5)), ← c .before .before .before .before .before .before .bursts-finished .ensures, c .before .before .before .before .before .if1 .taken, ← c .before .before .before .before .clear-for .ensures, c .before .before .before .if2 .taken, ← c .before .before .asks-auto .ensures, c .before .if3 .taken)
 
 -- src/verdicts.rt:106:13
 returns-2 : tie.Need-returns-2
-returns-2 c = rw (bus-ladder (c .before .before .before .before .before .before .before .before .before .before .args .k) (is-burst (c .before .before .before .before .before .before .before .before .before .before .args .k) (c .before .before .before .before .before .before .before .before .before .before .pre .4) (c .before .before .before .before .before .before .before .before .before .before .pre .5)), ← c .before .before .before .before .before .before .bursts-finished .ensures, c .before .before .before .before .before .if1 .taken, ← c .before .before .before .before .clear-for .ensures, c .before .before .before .if2 .taken, ← c .before .before .is-access .ensures, ← c .before .a10 .ensures, c .if3 .left)
+returns-2 c = rw (bus-ladder (c .before .before .before .before .before .before .before .before .before .args .k) (is-burst (c .before .before .before .before .before .before .before .before .before .args .k) (c .before .before .before .before .before .before .before .before .before .pre .4) (c .before .before .before .before .before .before .before .before .before .pre .5)), ← c .before .before .before .before .before .bursts-finished .ensures, c .before .before .before .before .if1 .taken, ← c .before .before .before .clear-for .ensures, c .before .before .if2 .taken, ← c .before .asks-auto .ensures, c .if3 .left)
 
 -- src/verdicts.rt:108:9
 refused-requires : tie.Need-refused-requires
@@ -62,8 +57,7 @@ bus-verdict-spec =
     (tie.spec
     bursts-finished-requires
     clear-for-requires
-    is-access-requires
-    a10-requires
+    asks-auto-requires
     auto-verdict-requires
     returns
     returns-2

@@ -6,7 +6,7 @@ use Rattle.taking.proofs.leaving.bank_after.Reads as reads
 use Rattle.taking.proofs.leaving.bank_after.Lts as lts
 use Rattle.taking.proofs.leaving.activated.Reads as activated-reads
 use Rattle.taking.proofs.leaving.auto_closed.Reads as auto-closed-reads
-use Rattle.taking.proofs.leaving.closes_itself.Reads as closes-itself-reads
+use Rattle.parts.proofs.closing.asks_auto.Reads as asks-auto-reads
 use Rattle.taking.proofs.leaving.precharged.Reads as precharged-reads
 use Rattle.taking.proofs.leaving.with_status.Reads as with-status-reads
 use Rattle.layout.proofs.code_of.Reads as code-of-reads
@@ -26,8 +26,8 @@ unfolding bank-after
 returns c = rw (c .activated .ensures, ← c .before .before .before .code-of .ensures, c .before .if1 .taken)
 
 -- src/leaving.rt:207:8
-closes-itself-requires : tie.Need-closes-itself-requires
-closes-itself-requires c κs = search needs
+asks-auto-requires : tie.Need-asks-auto-requires
+asks-auto-requires c κs = search needs
 
 -- src/leaving.rt:208:28
 auto-closed-requires : tie.Need-auto-closed-requires
@@ -40,7 +40,7 @@ with-status-requires c κs = search needs
 -- src/leaving.rt:208:9
 returns-2 : tie.Need-returns-2
 unfolding bank-after
-returns-2 c = rw (c .with-status .ensures, c .before .auto-closed .ensures, ← c .before .before .before .closes-itself .ensures, ← c .before .before .before .before .before .before .code-of .ensures, c .before .before .before .before .if1 .left, c .before .before .if2 .taken)
+returns-2 c = rw (c .with-status .ensures, c .before .auto-closed .ensures, ← c .before .before .before .asks-auto .ensures, ← c .before .before .before .before .before .before .code-of .ensures, c .before .before .before .before .if1 .left, c .before .before .if2 .taken)
 
 -- src/leaving.rt:210:9
 covers-requires : tie.Need-covers-requires
@@ -57,12 +57,12 @@ with-status-requires-2 c κs = search needs
 -- src/leaving.rt:212:9
 returns-3 : tie.Need-returns-3
 unfolding bank-after
-returns-3 c = rw (c .with-status2 .ensures, c .before .precharged .ensures, ← c .before .before .before .before .before .closes-itself .ensures, ← c .before .before .before .before .before .before .before .before .code-of .ensures, ← c .before .before .before .covers .ensures, c .before .before .before .before .before .before .if1 .left, c .before .before .before .before .if2 .left, c .before .before .if3 .taken)
+returns-3 c = rw (c .with-status2 .ensures, c .before .precharged .ensures, ← c .before .before .before .before .before .asks-auto .ensures, ← c .before .before .before .before .before .before .before .before .code-of .ensures, ← c .before .before .before .covers .ensures, c .before .before .before .before .before .before .if1 .left, c .before .before .before .before .if2 .left, c .before .before .if3 .taken)
 
 -- src/leaving.rt:186:1
 returns-4 : tie.Need-returns-4
 unfolding bank-after
-returns-4 c = rw (← c .before .before .before .closes-itself .ensures, ← c .before .before .before .before .before .before .code-of .ensures, ← c .before .covers .ensures, c .before .before .before .before .if1 .left, c .before .before .if2 .left, c .if3 .left)
+returns-4 c = rw (← c .before .before .before .asks-auto .ensures, ← c .before .before .before .before .before .before .code-of .ensures, ← c .before .covers .ensures, c .before .before .before .before .if1 .left, c .before .before .if2 .left, c .if3 .left)
 
 pub bank-after-spec : {M : Type 1} → statement M
 bank-after-spec =
@@ -71,7 +71,7 @@ bank-after-spec =
     code-of-requires
     activated-requires
     returns
-    closes-itself-requires
+    asks-auto-requires
     auto-closed-requires
     with-status-requires
     returns-2

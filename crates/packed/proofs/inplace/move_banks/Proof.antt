@@ -1,0 +1,106 @@
+use mathlib.Core.Path.{ap}
+use Rattle.rules.specs.declared.Status.{Status}
+use Rattle.units.specs.Time.{at}
+use Rattle.rules.specs.StartUp.{begun}
+use Rattle.rules.specs.Parts.{word-in}
+use Rattle.rules.specs.Closing.{burst-end}
+use Rattle.parts.specs.Reach.{BanksFit}
+use Rattle.rules.specs.Admitted.{FitStatus}
+use Rattle.rules.specs.declared.Bank.{Bank}
+use Prim.Native.Nat.{_%_}
+use mathlib.Core.List.{List}
+use mathlib.Core.Path.{refl, sym, subst, _∙_}
+use native.Mathlib.Omega.{arith}
+use Rattle.packed.specs.Packed.{banks-in}
+use Rattle.packed.proofs.Own.{active-moved, auto-moved, none-moved}
+use Rattle.packed.proofs.Puts.{held-as, packed-held, bank-held}
+use borrow.Author.Needs.{needs}
+use Rattle.packed.proofs.inplace.move_banks.Statement.{statement}
+use Rattle.packed.proofs.inplace.move_banks.Tie as tie
+use Rattle.packed.proofs.inplace.move_banks.Reads as reads
+use Rattle.packed.proofs.inplace.move_banks.Lts as lts
+use Rattle.layout.proofs.code_of.Reads as code-of-reads
+use Rattle.packed.proofs.numbers.banks.Reads as banks-reads
+use Rattle.packed.proofs.numbers.put_bank.Reads as put-bank-reads
+use Rattle.packed.proofs.numbers.put_banks.Reads as put-banks-reads
+use Rattle.packed.proofs.numbers.put_status.Reads as put-status-reads
+use Rattle.packed.proofs.numbers.status.Reads as status-reads
+use Rattle.taking.proofs.leaving.activated.Reads as activated-reads
+use Rattle.taking.proofs.leaving.banks_moved.Reads as banks-moved-reads
+use Rattle.parts.proofs.closing.asks_auto.Reads as asks-auto-reads
+use Rattle.taking.proofs.leaving.self_closed.Reads as self-closed-reads
+
+-- src/inplace.rt:38:9
+code-of-requires : tie.Need-code-of-requires
+code-of-requires c κs = search needs
+
+-- src/inplace.rt:40:13
+banks-requires : tie.Need-banks-requires
+banks-requires c κs = search needs
+
+-- src/inplace.rt:41:13
+banks-moved-requires : tie.Need-banks-moved-requires
+banks-moved-requires c κs = (c .before .before .before .before .pre .0, c .before .before .before .before .pre .1, subst (λ (l : List Bank). BanksFit l) (sym (c .banks .ensures)) (c .before .before .before .before .pre .2), c .before .before .before .before .pre .3)
+
+-- src/inplace.rt:42:9
+put-banks-requires : tie.Need-put-banks-requires
+put-banks-requires c κs = search needs
+
+-- src/inplace.rt:43:9
+returns : tie.Need-returns
+returns c = held-as (c .put-banks .ensures) (rw (c .before .before .banks-moved .ensures, c .before .before .before .banks .ensures))
+
+-- src/inplace.rt:46:13
+activated-requires : tie.Need-activated-requires
+activated-requires c κs = search needs
+
+-- src/inplace.rt:47:9
+put-bank-requires : tie.Need-put-bank-requires
+put-bank-requires c κs = search needs
+
+-- src/inplace.rt:48:9
+returns-2 : tie.Need-returns-2
+returns-2 c = held-as (c .put-bank .ensures) (rw (c .before .before .activated .ensures) (active-moved (c .before .before .before .before .before .before .args .k) (c .before .before .before .before .before .before .args .t) (c .before .before .before .before .before .before .args .period) (burst-end (c .before .before .before .before .before .before .args .k) (c .before .before .before .before .before .before .args .t) (c .before .before .before .before .before .before .args .period) (word-in (c .before .before .before .before .before .before .args .startup .register)) (c .before .before .before .before .before .before .args .n)) (begun (c .before .before .before .before .before .before .args .startup)) (c .before .before .before .before .before .before .args .r) (c .before .before .before .before .before .before .args .n) (at (c .before .before .before .before .before .before .args .period) (c .before .before .before .before .before .before .args .n)) (banks-in (c .before .before .before .before .before .before .args .held .now)) refl (c .before .before .before .before .before .before .pre .4) (sym (c .before .before .before .before .before .code-of .ensures) ∙ c .before .before .before .if2 .taken)))
+
+-- src/inplace.rt:50:8
+asks-auto-requires : tie.Need-asks-auto-requires
+asks-auto-requires c κs = search needs
+
+-- src/inplace.rt:51:13
+status-requires : tie.Need-status-requires
+status-requires c κs = search needs
+
+-- src/inplace.rt:52:13
+self-closed-requires : tie.Need-self-closed-requires
+self-closed-requires c κs = (c .before .before .before .before .before .before .before .pre .0, c .before .before .before .before .before .before .before .pre .1, subst (λ (x : Status). FitStatus x) (ap (λ (b : Bank). b .status) (bank-held (c .before .before .before .before .before .before .before .args .held .now) (c .before .before .before .before .before .before .before .args .r .ba % 4) (omega arith)) ∙ sym (c .status .ensures)) (c .before .before .before .before .before .before .before .pre .2 .each (c .before .before .before .before .before .before .before .args .r .ba % 4) .status), c .before .before .before .before .before .before .before .pre .3)
+
+-- src/inplace.rt:53:9
+put-status-requires : tie.Need-put-status-requires
+put-status-requires c κs = search needs
+
+-- src/inplace.rt:26:1
+returns-3 : tie.Need-returns-3
+returns-3 c = held-as (c .put-status .ensures) (rw (c .before .before .self-closed .ensures, c .before .before .before .status .ensures, ← bank-held (c .before .before .before .before .before .before .before .before .before .before .args .held .now) (c .before .before .before .before .before .before .before .before .before .before .args .r .ba % 4) (omega arith)) (auto-moved (c .before .before .before .before .before .before .before .before .before .before .args .k) (c .before .before .before .before .before .before .before .before .before .before .args .t) (c .before .before .before .before .before .before .before .before .before .before .args .period) (burst-end (c .before .before .before .before .before .before .before .before .before .before .args .k) (c .before .before .before .before .before .before .before .before .before .before .args .t) (c .before .before .before .before .before .before .before .before .before .before .args .period) (word-in (c .before .before .before .before .before .before .before .before .before .before .args .startup .register)) (c .before .before .before .before .before .before .before .before .before .before .args .n)) (begun (c .before .before .before .before .before .before .before .before .before .before .args .startup)) (c .before .before .before .before .before .before .before .before .before .before .args .r) (c .before .before .before .before .before .before .before .before .before .before .args .n) (at (c .before .before .before .before .before .before .before .before .before .before .args .period) (c .before .before .before .before .before .before .before .before .before .before .args .n)) (banks-in (c .before .before .before .before .before .before .before .before .before .before .args .held .now)) refl (c .before .before .before .before .before .before .before .before .before .before .pre .4) (omega (arith, c .before .before .before .before .before .before .before .before .before .code-of .ensures, c .before .before .before .before .before .before .before .before .if1 .left, c .before .before .before .before .before .before .before .if2 .left)) (sym (c .before .before .before .before .before .before .asks-auto .ensures) ∙ c .before .before .before .before .before .if3 .taken)))
+
+-- src/inplace.rt:26:1
+returns-4 : tie.Need-returns-4
+returns-4 c = held-as (packed-held (c .before .before .before .before .before .pre .5)) (none-moved (c .before .before .before .before .before .args .k) (c .before .before .before .before .before .args .t) (c .before .before .before .before .before .args .period) (burst-end (c .before .before .before .before .before .args .k) (c .before .before .before .before .before .args .t) (c .before .before .before .before .before .args .period) (word-in (c .before .before .before .before .before .args .startup .register)) (c .before .before .before .before .before .args .n)) (begun (c .before .before .before .before .before .args .startup)) (c .before .before .before .before .before .args .r) (c .before .before .before .before .before .args .n) (at (c .before .before .before .before .before .args .period) (c .before .before .before .before .before .args .n)) (banks-in (c .before .before .before .before .before .args .held .now)) refl (c .before .before .before .before .before .pre .4) (omega (arith, c .before .before .before .before .code-of .ensures, c .before .before .before .if1 .left, c .before .before .if2 .left)) (sym (c .before .asks-auto .ensures) ∙ c .if3 .left))
+
+pub move-banks-spec : {M : Type 1} → statement M
+move-banks-spec =
+    tie.close
+    (tie.spec
+    code-of-requires
+    banks-requires
+    banks-moved-requires
+    put-banks-requires
+    returns
+    activated-requires
+    put-bank-requires
+    returns-2
+    asks-auto-requires
+    status-requires
+    self-closed-requires
+    put-status-requires
+    returns-3
+    returns-4)

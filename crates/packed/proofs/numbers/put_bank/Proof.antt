@@ -1,0 +1,169 @@
+use native.Mathlib.Omega.{arith}
+use Prim.Native.Nat.{_%_}
+use Rattle.packed.proofs.Puts.{bank-put}
+use borrow.Author.Needs.{needs}
+use Rattle.packed.proofs.numbers.put_bank.Statement.{statement}
+use Rattle.packed.proofs.numbers.put_bank.Tie as tie
+use Rattle.packed.proofs.numbers.put_bank.Reads as reads
+use Rattle.packed.proofs.numbers.put_bank.Lts as lts
+use Rattle.packed.proofs.numbers.event_kind.Reads as event-kind-reads
+use Rattle.packed.proofs.numbers.event_number.Reads as event-number-reads
+use Rattle.packed.proofs.numbers.place.Reads as place-reads
+use Rattle.packed.proofs.numbers.status_kind.Reads as status-kind-reads
+use Rattle.packed.proofs.numbers.status_number.Reads as status-number-reads
+use Rattle.parts.proofs.banks.row_of.Reads as row-of-reads
+
+-- src/lib.rt:145:9
+place-requires : tie.Need-place-requires
+place-requires c κs = search needs
+
+-- src/lib.rt:149:16
+status-kind-requires : tie.Need-status-kind-requires
+status-kind-requires c κs = search needs
+
+-- src/lib.rt:149:5
+mul-held : tie.Need-mul-held
+mul-held c = search needs
+
+-- src/lib.rt:149:5
+element-write-held : tie.Need-element-write-held
+element-write-held c = search needs
+
+-- src/lib.rt:150:20
+row-of-requires : tie.Need-row-of-requires
+row-of-requires c κs = search needs
+
+-- src/lib.rt:150:20
+cast-held : tie.Need-cast-held
+cast-held c = search needs
+
+-- src/lib.rt:150:10
+add-held : tie.Need-add-held
+add-held c = search needs
+
+-- src/lib.rt:150:5
+mul-held-2 : tie.Need-mul-held-2
+mul-held-2 c = search needs
+
+-- src/lib.rt:150:5
+element-write-held-2 : tie.Need-element-write-held-2
+element-write-held-2 c = search needs
+
+-- src/lib.rt:151:20
+status-number-requires : tie.Need-status-number-requires
+status-number-requires c κs = search needs
+
+-- src/lib.rt:151:10
+add-held-2 : tie.Need-add-held-2
+add-held-2 c = search needs
+
+-- src/lib.rt:151:5
+mul-held-3 : tie.Need-mul-held-3
+mul-held-3 c = search needs
+
+-- src/lib.rt:151:5
+element-write-held-3 : tie.Need-element-write-held-3
+element-write-held-3 c = search needs
+
+-- src/lib.rt:152:20
+event-kind-requires : tie.Need-event-kind-requires
+event-kind-requires c κs = search needs
+
+-- src/lib.rt:152:10
+add-held-3 : tie.Need-add-held-3
+add-held-3 c = search needs
+
+-- src/lib.rt:152:5
+mul-held-4 : tie.Need-mul-held-4
+mul-held-4 c = search needs
+
+-- src/lib.rt:152:5
+element-write-held-4 : tie.Need-element-write-held-4
+element-write-held-4 c = search needs
+
+-- src/lib.rt:153:20
+event-number-requires : tie.Need-event-number-requires
+event-number-requires c κs = search needs
+
+-- src/lib.rt:153:10
+add-held-4 : tie.Need-add-held-4
+add-held-4 c = search needs
+
+-- src/lib.rt:153:5
+mul-held-5 : tie.Need-mul-held-5
+mul-held-5 c = search needs
+
+-- src/lib.rt:153:5
+element-write-held-5 : tie.Need-element-write-held-5
+element-write-held-5 c = search needs
+
+-- src/lib.rt:154:20
+event-kind-requires-2 : tie.Need-event-kind-requires-2
+event-kind-requires-2 c κs = search needs
+
+-- src/lib.rt:154:10
+add-held-5 : tie.Need-add-held-5
+add-held-5 c = search needs
+
+-- src/lib.rt:154:5
+mul-held-6 : tie.Need-mul-held-6
+mul-held-6 c = search needs
+
+-- src/lib.rt:154:5
+element-write-held-6 : tie.Need-element-write-held-6
+element-write-held-6 c = search needs
+
+-- src/lib.rt:155:20
+event-number-requires-2 : tie.Need-event-number-requires-2
+event-number-requires-2 c κs = search needs
+
+-- src/lib.rt:155:10
+add-held-6 : tie.Need-add-held-6
+add-held-6 c = search needs
+
+-- src/lib.rt:155:5
+mul-held-7 : tie.Need-mul-held-7
+mul-held-7 c = search needs
+
+-- src/lib.rt:155:5
+element-write-held-7 : tie.Need-element-write-held-7
+element-write-held-7 c = search needs
+
+-- src/lib.rt:141:1
+returns : tie.Need-returns
+returns c = bank-put (c .before .before .before .before .before .before .before .before .args .held .now) (c .before .before .before .before .before .before .before .before .pre) (c .before .before .before .before .before .before .before .before .args .i % 4) (omega arith) (c .before .before .before .before .before .before .before .place .ensures) (c .before .before .before .before .before .before .before .before .args .b) (record { kind = c .before .before .before .before .before .before .status-kind .ensures; row = c .before .before .before .before .before .row-of .ensures; number = c .before .before .before .before .status-number .ensures; small = omega (arith, c .before .before .before .before .before .row-of .ok) }) (record { kind = c .before .before .before .event-kind .ensures; number = c .before .before .event-number .ensures }) (record { kind = c .before .event-kind2 .ensures; number = c .event-number2 .ensures })
+
+pub put-bank-spec : {M : Type 1} → statement M
+put-bank-spec =
+    tie.close
+    (tie.spec
+    place-requires
+    status-kind-requires
+    mul-held
+    element-write-held
+    row-of-requires
+    cast-held
+    add-held
+    mul-held-2
+    element-write-held-2
+    status-number-requires
+    add-held-2
+    mul-held-3
+    element-write-held-3
+    event-kind-requires
+    add-held-3
+    mul-held-4
+    element-write-held-4
+    event-number-requires
+    add-held-4
+    mul-held-5
+    element-write-held-5
+    event-kind-requires-2
+    add-held-5
+    mul-held-6
+    element-write-held-6
+    event-number-requires-2
+    add-held-6
+    mul-held-7
+    element-write-held-7
+    returns)
