@@ -1,5 +1,6 @@
 // The four banks as numbers in one array, eight to a bank, for the loop over records: the array is lent to what asks and changes
-// them, where banks that are handed on would be copied for each record.
+// them, where banks that are handed on would be copied for each record. A clock and a time are both a number here; the kind beside
+// it says which, and only in this file.
 ghost use mathlib.Core.Path.{_≡_};
 ghost use mathlib.Core.Bool.{true};
 ghost use Prim.Native.Nat.{_%_, _*_};
