@@ -9,6 +9,7 @@ use lib.ListN.{length, set}
 use borrow.Author.Tests.{eq-eqb, ne-eqb, ltb-true, ltb-false}
 use Rattle.units.specs.declared.Clock.{Clock}
 use Rattle.units.specs.declared.Ps.{Ps}
+use Rattle.units.proofs.Both.{both}
 use Rattle.speed.specs.declared.SpeedTable.{SpeedTable}
 use Rattle.layout.specs.declared.Record.{Record}
 use Rattle.layout.specs.declared.Command.{Command}
@@ -86,11 +87,6 @@ module _ (k : Command) (t : SpeedTable) (period end : Ps) (again : Bool) (r : Re
       sym (untouched k t period end again r n moment (rw (x, a, y)) l)
 
 -- ── The beat's mark ──
-
--- both of two tests hold
-both : (a b : Bool) → (a && b) ≡ true → (a ≡ true) × (b ≡ true)
-both true b h = (refl, h)
-both false b h = absurd (true≢false (sym h))
 
 -- a beat that stores no byte in a bank of the module marks none
 pub mark-none : (w : Beat) → stores-byte w ≡ false → (n : Clock) (l : List Bank) → length l ≡ 4 → l ≡ mark-banks w n l

@@ -30,17 +30,6 @@ of-32 : (P : List ℕ → Type 0) → ((f : ℕ → ℕ) → P (numbers f 32)) �
 of-32 P h l e = subst P (sym (by-numbers l ∙ ap (numbers (λ i. getD l i 0)) e)) (h (λ i. getD l i 0))
 
 -- what holds of each of the four banks by its number, holds of bank i
-module _ (P : ℕ → List ℕ → Type 0)
-    (a : (f : ℕ → ℕ) → P 0 (numbers f 32)) (b : (f : ℕ → ℕ) → P 1 (numbers f 32))
-    (c : (f : ℕ → ℕ) → P 2 (numbers f 32)) (d : (f : ℕ → ℕ) → P 3 (numbers f 32)) where
-  at-each : (i : ℕ) → i < 4 → (l : List ℕ) → length l ≡ 32 → P i l
-  at-each zero h l e = of-32 (P 0) a l e
-  at-each (suc zero) h l e = of-32 (P 1) b l e
-  at-each (suc (suc zero)) h l e = of-32 (P 2) c l e
-  at-each (suc (suc (suc zero))) h l e = of-32 (P 3) d l e
-  at-each (suc (suc (suc (suc i)))) h l e = absurd (omega arith)
-
--- the same of numbers that are known
 module _ (P : ℕ → Type 0) (a : P 0) (b : P 1) (c : P 2) (d : P 3) where
   by-place : (i : ℕ) → i < 4 → P i
   by-place zero h = a
@@ -48,6 +37,13 @@ module _ (P : ℕ → Type 0) (a : P 0) (b : P 1) (c : P 2) (d : P 3) where
   by-place (suc (suc zero)) h = c
   by-place (suc (suc (suc zero))) h = d
   by-place (suc (suc (suc (suc i)))) h = absurd (omega arith)
+
+-- the same in whatever 32 numbers
+module _ (P : ℕ → List ℕ → Type 0)
+    (a : (f : ℕ → ℕ) → P 0 (numbers f 32)) (b : (f : ℕ → ℕ) → P 1 (numbers f 32))
+    (c : (f : ℕ → ℕ) → P 2 (numbers f 32)) (d : (f : ℕ → ℕ) → P 3 (numbers f 32)) where
+  at-each : (i : ℕ) → i < 4 → (l : List ℕ) → length l ≡ 32 → P i l
+  at-each i h l e = by-place (λ (i : ℕ). P i l) (of-32 (P 0) a l e) (of-32 (P 1) b l e) (of-32 (P 2) c l e) (of-32 (P 3) d l e) i h
 
 -- ── The bank that is changed ──
 
@@ -172,11 +168,7 @@ pub held-only : {l m : List ℕ} {bs : List Bank} → Held l bs → Held m bs �
 held-only h g = h .numbers ∙ sym (g .numbers)
 
 pub bank-held : (l : List ℕ) (i : ℕ) → i < 4 → bank-at (banks-in l) i ≡ bank-in l i
-bank-held l zero h = refl
-bank-held l (suc zero) h = refl
-bank-held l (suc (suc zero)) h = refl
-bank-held l (suc (suc (suc zero))) h = refl
-bank-held l (suc (suc (suc (suc i)))) h = absurd (omega arith)
+bank-held l i h = by-place (λ (i : ℕ). bank-at (banks-in l) i ≡ bank-in l i) refl refl refl refl i h
 
 -- a bank that was read by its place, among those that were read
 pub own-held : (l : List ℕ) (i : ℕ) → i < 4 → {b : Bank} {bs : List Bank} → b ≡ bank-in l (i % 4) → bs ≡ banks-in l → b ≡ bank-at bs i
