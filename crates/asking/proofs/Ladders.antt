@@ -6,6 +6,8 @@ use lib.Dec.{eqb}
 use Rattle.units.specs.declared.Clock.{Clock}
 use Rattle.units.specs.declared.Ps.{Ps}
 use Rattle.units.specs.Time.{by, occurred}
+use Rattle.units.specs.declared.Module.{Module}
+use Rattle.units.specs.Module.{module-of}
 use Rattle.speed.specs.declared.SpeedTable.{SpeedTable}
 use Rattle.layout.specs.declared.Record.{Record}
 use Rattle.layout.specs.declared.Command.{Command}
@@ -79,19 +81,19 @@ ladder : (k : Command) (t : SpeedTable) (c : Core) (bs : List Bank) (r : Record)
     ≡ cond (allowed k r now (c .startup))
     (cond (banks-found k (r .ba) bs)
     (then (lowest (shorts t (c .period) now (minima k (c .period) (c .startup) r bs)))
-    (then (first-broken (mode-rules k t (c .period) r)) (first-broken (bus-rules k t c (bank-at bs (r .ba) .status) r n))))
+    (then (first-broken (mode-rules k t (module-of (c .grade)) (c .period) r)) (first-broken (bus-rules k t c (bank-at bs (r .ba) .status) r n))))
     (Refused 15 0))
     (Refused 14 0)
 unfolding command-rules place-rules
 ladder k t c bs r n now =
     two-rows (allowed k r now (c .startup)) (banks-found k (r .ba) bs)
     (minimum-rules t (c .period) now (minima k (c .period) (c .startup) r bs)
-    ++ (mode-rules k t (c .period) r ++ bus-rules k t c (bank-at bs (r .ba) .status) r n))
+    ++ (mode-rules k t (module-of (c .grade)) (c .period) r ++ bus-rules k t c (bank-at bs (r .ba) .status) r n))
     ∙ ap (λ (v : Verdict). cond (allowed k r now (c .startup)) (cond (banks-found k (r .ba) bs) v (Refused 15 0)) (Refused 14 0))
-    (joined (minimum-rules t (c .period) now (minima k (c .period) (c .startup) r bs)) (mode-rules k t (c .period) r)
+    (joined (minimum-rules t (c .period) now (minima k (c .period) (c .startup) r bs)) (mode-rules k t (module-of (c .grade)) (c .period) r)
     (bus-rules k t c (bank-at bs (r .ba) .status) r n)
     ∙ ap
-    (λ (v : Verdict). then v (then (first-broken (mode-rules k t (c .period) r)) (first-broken (bus-rules k t c (bank-at bs (r .ba) .status) r n))))
+    (λ (v : Verdict). then v (then (first-broken (mode-rules k t (module-of (c .grade)) (c .period) r)) (first-broken (bus-rules k t c (bank-at bs (r .ba) .status) r n))))
     (minimum-lowest t (c .period) now (minima k (c .period) (c .startup) r bs)))
 
 -- rows 19 to 22 as tests
@@ -117,11 +119,11 @@ bus-ladder k h t c status r n =
     (four-rows (bursts-finished (c .bus .write) (c .bus .reads) n) (is k Write ⇒ bus-clear (c .last) (c .bus .masks) (c .bus .reads) n) (asks-auto k r)
     (ends-by-itself k (word c)) (closes-within t (c .period) (burst-end k t (c .period) (word c) n) status))
 
-pub mode-ladder : (t : SpeedTable) (period : Ps) (r : Record)
-    → first-broken (mode-rules LoadMode t period r)
-    ≡ cond (legal (r .addr) && eqb (r .ba) 0) (cond (by (tCK t (r .addr)) period) Taken (Refused 18 0)) (Refused 17 0)
+pub mode-ladder : (t : SpeedTable) (m : Module) (period : Ps) (r : Record)
+    → first-broken (mode-rules LoadMode t m period r)
+    ≡ cond (legal m (r .addr) && eqb (r .ba) 0) (cond (by (tCK t (r .addr)) period) Taken (Refused 18 0)) (Refused 17 0)
 unfolding mode-rules
-mode-ladder t period r = go (legal (r .addr) && eqb (r .ba) 0) (by (tCK t (r .addr)) period)
+mode-ladder t m period r = go (legal m (r .addr) && eqb (r .ba) 0) (by (tCK t (r .addr)) period)
   where
     go : (a b : Bool) → first-broken (rule 17 0 a ∷ rule 18 0 b ∷ []) ≡ cond a (cond b Taken (Refused 18 0)) (Refused 17 0)
     go true true = refl
@@ -144,7 +146,7 @@ module _ (t : SpeedTable) (c : Core) (bs : List Bank) (r : Record) (n : Clock) (
           → cond (allowed k r now (c .startup))
           (cond (banks-found k (r .ba) bs)
           (then (lowest (shorts t (c .period) now (minima k (c .period) (c .startup) r bs)))
-          (then (first-broken (mode-rules k t (c .period) r)) (first-broken (bus-rules k t c (bank-at bs (r .ba) .status) r n))))
+          (then (first-broken (mode-rules k t (module-of (c .grade)) (c .period) r)) (first-broken (bus-rules k t c (bank-at bs (r .ba) .status) r n))))
           (Refused 15 0))
           (Refused 14 0)
           ≡ cond (precharge-all k r && by power-up now) Taken (Refused 14 0)
@@ -221,7 +223,7 @@ module _ (t : SpeedTable) (c : Core) (bs : List Bank) (r : Record) (n : Clock) (
         ≡ cond (two-done (c .startup .refreshes))
         (cond (every closed bs)
         (then (lowest (either (shorts t (c .period) now (of-any (c .period) (c .startup))) (shorts t (c .period) now (of-idle bs))))
-        (first-broken (mode-rules LoadMode t (c .period) r)))
+        (first-broken (mode-rules LoadMode t (module-of (c .grade)) (c .period) r)))
         (Refused 15 0))
         (Refused 14 0)
     unfolding allowed banks-found bus-rules

@@ -22,6 +22,7 @@ use rules::Core;
 use rules::Verdict;
 use speed::SpeedTable;
 use units::Clock;
+use units::Module;
 use units::Ps;
 
 // "That command must stand at 100,000,000 ps or later."
@@ -64,7 +65,8 @@ fn ask_load_mode(t: SpeedTable, c: Core, all: [Bank; 4], r: Record, n: Clock, no
             let Verdict::Taken = v else {
                 return v;
             };
-            return verdicts::mode_verdict(t, c.period, r);
+            let unit = Module::of_grade(c.grade);
+            return verdicts::mode_verdict(t, unit, c.period, r);
         }
         return Verdict::refused(15);
     }

@@ -24,6 +24,7 @@ use rules::Status;
 use rules::Verdict;
 use speed::SpeedTable;
 use units::Clock;
+use units::Module;
 use units::Ps;
 
 // "tCK of the chosen latency."
@@ -34,10 +35,10 @@ fn tck_of(t: SpeedTable, latency: u8) -> Ps
 }
 
 // 17 and 18 of a LOAD MODE: "all else is 17".
-pub fn mode_verdict(t: SpeedTable, period: Ps, r: Record) -> Verdict
-    ensures { λ x. ⌜ x ≡ first-broken (mode-rules Command.LoadMode t period r) ⌝ }
+pub fn mode_verdict(t: SpeedTable, unit: Module, period: Ps, r: Record) -> Verdict
+    ensures { λ x. ⌜ x ≡ first-broken (mode-rules Command.LoadMode t unit period r) ⌝ }
 {
-    let Decoded::Known(m) = mode::decode(r.addr) else {
+    let Decoded::Known(m) = mode::decode(unit, r.addr) else {
         return Verdict::refused(17);
     };
     if r.ba != 0 {

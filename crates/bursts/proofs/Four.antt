@@ -82,7 +82,7 @@ module _ (bs : List Burst) (h : length bs ≡ 4) where
 
   -- a READ is the latest and cuts those before it, of which the fourth is let go
   pub new-first : (k : Command) (r : Record) (n : Clock) (word row : ℕ) → is k Write ≡ false → is k Read ≡ true
-      → (burst-at word n (r .addr) (r .ba) row
+      → (burst-at word n (r .addr) (r .column) (r .ba) row
       ∷ cut-if true n (burst bs 0)
       ∷ cut-if true n (burst bs 1)
       ∷ cut-if true n (burst bs 2)

@@ -9,7 +9,7 @@ use Rattle.units.specs.Time.{clock}
 use Rattle.layout.specs.declared.Record.{Record}
 use Rattle.layout.specs.declared.Command.{Command}
 use Rattle.layout.specs.declared.Command.the-variants.{Terminate, Precharge}
-use Rattle.layout.specs.Commands.{is, access, a10-of, column-of, covers}
+use Rattle.layout.specs.Commands.{is, access, a10-of, covers}
 use Rattle.mode.specs.Word.{full-page, length-of, latency, write-length, write-endless}
 use Rattle.mode.specs.Order.{beat-column}
 use Rattle.bursts.specs.declared.Burst.{Burst}
@@ -25,14 +25,14 @@ no-burst =
     record { live = false; auto = false; bank = 0; row = 0; column = 0; start = clock 0; cut = Never; word = 0x30 }
 
 -- a READ or WRITE of bank `ba`, row `row`, registered on clock n: "a burst keeps the mode of its registration"
-abbrev pub burst-at : ℕ → Clock → ℕ → ℕ → ℕ → Burst
-burst-at word n addr ba row =
+abbrev pub burst-at : ℕ → Clock → ℕ → ℕ → ℕ → ℕ → Burst
+burst-at word n addr column ba row =
     record {
       live = true;
       auto = a10-of addr;
       bank = ba;
       row = row;
-      column = column-of addr;
+      column = column;
       start = n;
       cut = Never;
       word = word;

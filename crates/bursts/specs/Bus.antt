@@ -83,12 +83,12 @@ reads-from k new bs = cond (is k Write) no-reads (cond (is k Read) (new ∷ take
 -- the READ bursts after command k of record r on clock n, in mode `word`, of the open row
 abbrev pub reads-after : Command → Record → Clock → ℕ → ℕ → List Burst → List Burst
 reads-after k r n word row bs =
-    reads-from k (burst-at word n (r .addr) (r .ba) row) (cut-each k (r .addr) (r .ba) n bs)
+    reads-from k (burst-at word n (r .addr) (r .column) (r .ba) row) (cut-each k (r .addr) (r .ba) n bs)
 
 -- the WRITE burst after it
 abbrev pub write-after : Command → Record → Clock → ℕ → ℕ → Burst → Burst
 write-after k r n word row b =
-    cond (is k Write) (burst-at word n (r .addr) (r .ba) row) (cut-by k (r .addr) (r .ba) n b)
+    cond (is k Write) (burst-at word n (r .addr) (r .column) (r .ba) row) (cut-by k (r .addr) (r .ba) n b)
 
 unfoldable pub bus-after : Command → Record → Clock → ℕ → ℕ → Bus → Bus
 bus-after k r n word row u =

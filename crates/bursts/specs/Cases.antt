@@ -18,6 +18,7 @@ use Rattle.layout.specs.declared.Command.the-variants.{
   Refresh,
   LoadMode,
 }
+use Rattle.layout.specs.Commands.{column-of}
 use Rattle.mode.specs.Word.{length-of}
 use Rattle.mode.specs.Order.{beat-column}
 use Rattle.bursts.specs.declared.Burst.{Burst}
@@ -29,7 +30,7 @@ use Rattle.bursts.specs.Bus.{masks-on, two-before, driven, bus-clear, st
 
 -- a burst in this mode from this column, registered on clock 100, of bank 1 and row 7
 abbrev from-100 : ℕ → ℕ → Burst
-from-100 word addr = burst-at word (clock 100) addr 1 7
+from-100 word addr = burst-at word (clock 100) addr (column-of addr) 1 7
 
 -- the same, cut on clock x
 abbrev cut-on : ℕ → Burst → Burst

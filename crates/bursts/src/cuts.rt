@@ -7,7 +7,6 @@ use crate::Burst;
 use layout::Command;
 use layout::a10;
 use layout::code_of;
-use layout::column_of;
 use layout::covers;
 use layout::is_access;
 use units::Clock;
@@ -66,11 +65,10 @@ impl Burst {
 
     // A READ or WRITE that is registered on clock n: "a burst keeps the mode of its registration", whatever is loaded,
     // closed or opened after it.
-    pub fn at(word: u16, n: Clock, addr: u16, ba: u8, row: u16) -> Burst
-        ensures { λ r. ⌜ r ≡ burst-at word n addr ba row ⌝ }
+    pub fn at(word: u16, n: Clock, addr: u16, column: u16, ba: u8, row: u16) -> Burst
+        ensures { λ r. ⌜ r ≡ burst-at word n addr column ba row ⌝ }
     {
         let auto = a10(addr);
-        let column = column_of(addr);
         let cut = Event::Never;
         Burst {
             live: true,

@@ -42,7 +42,7 @@ pub fn write_after(k: Command, r: Record, n: Clock, word: u16, row: u16, b: Burs
     ensures { λ x. ⌜ x ≡ write-after k r n word row b ⌝ }
 {
     if is(k, Command::Write) {
-        return Burst::at(word, n, r.addr, r.ba, row);
+        return Burst::at(word, n, r.addr, r.column, r.ba, row);
     }
     b.cut_by(k, r.addr, r.ba, n)
 }

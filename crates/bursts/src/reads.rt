@@ -86,7 +86,7 @@ pub fn reads_after(
         return no_reads();
     }
     if is(k, Command::Read) {
-        let new = Burst::at(word, n, r.addr, r.ba, row);
+        let new = Burst::at(word, n, r.addr, r.column, r.ba, row);
         let a = bs[0].cut_if(true, n);
         let b = bs[1].cut_if(true, n);
         let c = bs[2].cut_if(true, n);

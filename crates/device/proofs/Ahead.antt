@@ -6,6 +6,7 @@ use mathlib.Core.List.{List, [], _∷_}
 use lib.ListN.{length, take, drop, length-drop}
 use lib.Seq.{take-all, take-take}
 use borrow.Author.Tests.{le-leb, lt-leb}
+use Rattle.units.specs.declared.Module.{Module}
 use Rattle.layout.specs.Bytes.{number-after, word-at, record-from, record-of}
 use Rattle.device.specs.declared.Words.{Words}
 use Rattle.device.specs.InPlace.{words-ahead}
@@ -29,18 +30,18 @@ second-half (a ∷ b ∷ c ∷ d ∷ e ∷ f ∷ []) = refl
 second-half (a ∷ b ∷ c ∷ d ∷ e ∷ f ∷ g ∷ []) = refl
 second-half (a ∷ b ∷ c ∷ d ∷ e ∷ f ∷ g ∷ h ∷ l) = refl
 
-of-sixteen : (l : List ℕ) → record-from (word-at l 0) (word-at l 8) ≡ record-of (take 16 l)
-of-sixteen l =
+of-sixteen : (m : Module) (l : List ℕ) → record-from m (word-at l 0) (word-at l 8) ≡ record-of m (take 16 l)
+of-sixteen m l =
     let p : word-at l 0 ≡ word-at (take 16 l) 0 = ap (number-after 0) (sym (take-take 8 16 l (omega arith))) in
     let q : word-at l 8 ≡ word-at (take 16 l) 8 = ap (number-after 0) (sym (ap (take 8) (second-half l) ∙ take-take 8 8 (drop 8 l) (omega arith))) in
-    λ i. record-from (p i) (q i)
+    λ i. record-from m (p i) (q i)
 
 -- record k of so many
-pub words-read : (k count : ℕ) (s : List ℕ) {w : Words} → length s ≡ 16 * count → k < count → w ≡ words-ahead (drop (16 * k) s)
-    → record-from (w .first) (w .second) ≡ record-of (take 16 (drop (16 * k) s))
-words-read k count s {w} h l e =
+pub words-read : (m : Module) (k count : ℕ) (s : List ℕ) {w : Words} → length s ≡ 16 * count → k < count → w ≡ words-ahead (drop (16 * k) s)
+    → record-from m (w .first) (w .second) ≡ record-of m (take 16 (drop (16 * k) s))
+words-read m k count s {w} h l e =
     let long : 16 ≤ length (drop (16 * k) s) = simp length-drop (omega arith) in
-    ap (λ (x : Words). record-from (x .first) (x .second)) (e ∙ words-here (drop (16 * k) s) long) ∙ of-sixteen (drop (16 * k) s)
+    ap (λ (x : Words). record-from m (x .first) (x .second)) (e ∙ words-here (drop (16 * k) s) long) ∙ of-sixteen m (drop (16 * k) s)
 
 pub next-read : (m : ℕ) (s : List ℕ) {w : Words} → w ≡ words-ahead (take (length s - m) (drop m s)) → w ≡ words-ahead (drop m s)
 next-read m s e =

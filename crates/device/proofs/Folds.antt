@@ -8,10 +8,11 @@ use lib.ListN.{take, drop}
 use lib.Seq.{drop-drop}
 use Rattle.units.specs.declared.Clock.{Clock}
 use Rattle.units.specs.Time.{at}
+use Rattle.units.specs.declared.Module.{Module}
 use Rattle.layout.specs.declared.Record.{Record}
 use Rattle.layout.specs.Bytes.{record-of, records-of}
-use Rattle.layout.specs.Widths.{Widths}
-use Rattle.layout.proofs.Widths.{record-fits}
+use Rattle.layout.specs.Widths.{Widths, OnModule}
+use Rattle.layout.proofs.Widths.{record-fits, record-on}
 use Rattle.bursts.specs.declared.Beat.{Beat}
 use Rattle.page.specs.Store.{stored}
 use Rattle.rules.specs.declared.State.{State}
@@ -20,9 +21,9 @@ use Rattle.rules.specs.declared.Core.{Core}
 use Rattle.rules.specs.declared.Verdict.{Verdict}
 use Rattle.rules.specs.declared.Verdict.the-variants.{Taken, Refused}
 use Rattle.rules.specs.Numbers.{first-broken}
-use Rattle.rules.specs.Parts.{clock-of}
+use Rattle.rules.specs.Parts.{clock-of, state-module}
 use Rattle.rules.specs.Rules.{rules, ask}
-use Rattle.rules.specs.After.{own-beat, core-from, core-after, next}
+use Rattle.rules.specs.After.{core-from, core-after, next, page-next}
 use Rattle.rules.specs.Run.{line}
 use Rattle.parts.specs.Reach.{Able, Call}
 use Rattle.rules.specs.Report.{put-line, left, ran, fold}
@@ -47,8 +48,9 @@ next-period : (u : Setup) (s : State) (r : Record) → next u s r .core .period 
 unfolding next core-after core-from
 next-period u s r = refl
 
-pub able-next : (u : Setup) (s : State) (count : ℕ) (r : Record) → Able u s (count + 1) → Widths r → ask u s r ≡ Taken → Able u (next u s r) count
-able-next u s count r a w p =
+pub able-next : (u : Setup) (s : State) (count : ℕ) (r : Record) → Able u s (count + 1) → Widths r → OnModule (state-module s) r → ask u s r ≡ Taken
+    → Able u (next u s r) count
+able-next u s count r a w o p =
     record {
       table = a .table;
       period = rw (next-period u s r) (a .period);
@@ -59,6 +61,7 @@ able-next u s count r a w p =
             trasmin = a .table .trasmin;
             addition = a .table .addition;
             widths = w;
+            place = o;
             number = omega (arith, a .room);
           })
           (a .state) p;
@@ -75,7 +78,7 @@ asked-as u s r hc hn hv = sym (hv ∙ (λ i. first-broken (rules (u .table) (hc 
 
 pub fold-taken : (u : Setup) (s : State) (r : Record) (rs : List Record) (page beats : List ℕ) → ask u s r ≡ Taken
     → fold u s (r ∷ rs) page beats
-    ≡ fold u (next u s r) rs (stored (s .core .bank) (s .core .row) (r .dq) (own-beat s r) page) (put-line (s .core .number) (line s r) beats)
+    ≡ fold u (next u s r) rs (page-next s r page) (put-line (s .core .number) (line s r) beats)
 unfolding fold
 fold-taken u s r rs page beats p = rw (p, fold)
 
@@ -86,41 +89,48 @@ fold-refused u s r rs page beats n i p = rw (p, fold)
 
 module _ (bytes : List ℕ) (count k : ℕ) (more : k < count) where
   -- the records from k on are record k and those from k + 1 on
-  rest : records-of (count - k) (drop (16 * k) bytes) ≡ (record-of (take 16 (drop (16 * k) bytes)) ∷ records-of (count - (k + 1)) (drop (16 * (k + 1)) bytes))
+  rest : (m : Module) → records-of m (count - k) (drop (16 * k) bytes) ≡ (record-of m (take 16 (drop (16 * k) bytes)) ∷ records-of m (count - (k + 1)) (drop (16 * (k + 1)) bytes))
   unfolding records-of
-  rest =
-      let m : count - k ≡ (count - (k + 1)) + 1 = omega arith in
+  rest m =
+      let c : count - k ≡ (count - (k + 1)) + 1 = omega arith in
       let a : 16 * k + 16 ≡ 16 * (k + 1) = omega arith in
-      ap (λ (x : ℕ). records-of x (drop (16 * k) bytes)) (m ∙ add-one (count - (k + 1)))
-      ∙ ap (λ (l : List ℕ). record-of (take 16 (drop (16 * k) bytes)) ∷ records-of (count - (k + 1)) l) (drop-drop 16 (16 * k) bytes ∙ ap (λ (x : ℕ). drop x bytes) a)
+      ap (λ (x : ℕ). records-of m x (drop (16 * k) bytes)) (c ∙ add-one (count - (k + 1)))
+      ∙ ap (λ (l : List ℕ). record-of m (take 16 (drop (16 * k) bytes)) ∷ records-of m (count - (k + 1)) l) (drop-drop 16 (16 * k) bytes ∙ ap (λ (x : ℕ). drop x bytes) a)
 
-  module _ (u : Setup) (s : State) (r : Record) (page beats part : List ℕ) (same : part ≡ take 16 (drop (16 * k) bytes)) (read : r ≡ record-of part) where
-    turn-at : fold u s (records-of (count - k) (drop (16 * k) bytes)) page beats
-        ≡ fold u s (r ∷ records-of (count - (k + 1)) (drop (16 * (k + 1)) bytes)) page beats
+  module _ (u : Setup) (s : State) (r : Record) (page beats part : List ℕ) (same : part ≡ take 16 (drop (16 * k) bytes))
+      (read : r ≡ record-of (state-module s) part) where
+    abbrev m : Module
+    m = state-module s
+
+    abbrev after : List Record
+    after = records-of m (count - (k + 1)) (drop (16 * (k + 1)) bytes)
+
+    turn-at : fold u s (records-of m (count - k) (drop (16 * k) bytes)) page beats ≡ fold u s (r ∷ after) page beats
     turn-at =
-        ap (λ (rs : List Record). fold u s rs page beats) rest
-        ∙ ap (λ (x : Record). fold u s (x ∷ records-of (count - (k + 1)) (drop (16 * (k + 1)) bytes)) page beats) (sym (read ∙ ap record-of same))
+        ap (λ (rs : List Record). fold u s rs page beats) (rest m)
+        ∙ ap (λ (x : Record). fold u s (x ∷ after) page beats) (sym (read ∙ ap (record-of m) same))
 
     -- a record that is taken
     module _ (p : ask u s r ≡ Taken) {st : State} {w : Beat} (x : Settled u s r st w) where
       pub goes-on : {n : Clock} {page′ beats′ : List ℕ} → n ≡ clock-of (s .core) r
-          → page′ ≡ stored (s .core .bank) (s .core .row) (r .dq) w page
+          → page′ ≡ stored (state-module s) (s .core .bank) (s .core .row) (r .dq) w page
           → beats′ ≡ put-line (s .core .number) (record { clock = n; beat = w }) beats
-          → fold u s (records-of (count - k) (drop (16 * k) bytes)) page beats
-          ≡ fold u st (records-of (count - (k + 1)) (drop (16 * (k + 1)) bytes)) page′ beats′
+          → fold u s (records-of m (count - k) (drop (16 * k) bytes)) page beats
+          ≡ fold u st after page′ beats′
       goes-on hn hp hb =
           turn-at
-          ∙ fold-taken u s r (records-of (count - (k + 1)) (drop (16 * (k + 1)) bytes)) page beats p
+          ∙ fold-taken u s r after page beats p
           ∙ sym (rw (hb, hp, hn, x .state, x .beat))
 
       pub stays-able : Able u s (count - k) → Able u st (count - (k + 1))
       stays-able a =
-          let m : count - k ≡ (count - (k + 1)) + 1 = omega arith in
-          let widths = subst (λ (y : Record). Widths y) (sym read) (record-fits part) in
+          let c : count - k ≡ (count - (k + 1)) + 1 = omega arith in
+          let widths = subst (λ (y : Record). Widths y) (sym read) (record-fits m part) in
+          let place = subst (λ (y : Record). OnModule m y) (sym read) (record-on m part) in
           subst (λ (y : State). Able u y (count - (k + 1))) (sym (x .state))
-          (able-next u s (count - (k + 1)) r (subst (λ (c : ℕ). Able u s c) m a) widths p)
+          (able-next u s (count - (k + 1)) r (subst (λ (x : ℕ). Able u s x) c a) widths place p)
 
     -- one that is refused
     pub stops : (n i : ℕ) → ask u s r ≡ Refused n i
-        → fold u s (records-of (count - k) (drop (16 * k) bytes)) page beats ≡ left (ran (Refused n i) (s .core .number)) page beats
-    stops n i p = turn-at ∙ fold-refused u s r (records-of (count - (k + 1)) (drop (16 * (k + 1)) bytes)) page beats n i p
+        → fold u s (records-of m (count - k) (drop (16 * k) bytes)) page beats ≡ left (ran (Refused n i) (s .core .number)) page beats
+    stops n i p = turn-at ∙ fold-refused u s r after page beats n i p

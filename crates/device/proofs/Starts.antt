@@ -13,6 +13,7 @@ use Rattle.rules.specs.declared.State.{State}
 use Rattle.rules.specs.declared.Setup.{Setup}
 use Rattle.rules.specs.declared.Verdict.{Verdict}
 use Rattle.rules.specs.declared.Verdict.the-variants.{Taken, Refused}
+use Rattle.rules.specs.Parts.{state-module}
 use Rattle.rules.specs.Numbers.{rule, first-broken}
 use Rattle.rules.specs.Fits.{number-max}
 use Rattle.rules.specs.OneRecord.{state-rules}
@@ -67,7 +68,7 @@ entry-of u s bytes lent p =
 
 module _ (u : Setup) (s : State) (bytes page beats : List ℕ) where
   pub records-entered : first-broken (records-rules u s (length bytes) (length page)) ≡ Taken
-      → records-call u s bytes page beats ≡ fold u s (records-of (length bytes / 16) bytes) page beats
+      → records-call u s bytes page beats ≡ fold u s (records-of (state-module s) (length bytes / 16) bytes) page beats
   unfolding records-call
   records-entered p = rw (p, records-call)
 

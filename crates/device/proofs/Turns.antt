@@ -6,20 +6,21 @@ use mathlib.Core.List.{List}
 use lib.Dec.{eqb}
 use lib.ListN.{length}
 use Rattle.speed.proofs.Bounds.{bounds}
+use Rattle.units.specs.declared.Module.{Module}
 use Rattle.layout.specs.declared.Record.{Record}
 use Rattle.layout.specs.Bytes.{record-of}
 use Rattle.layout.specs.Widths.{Widths}
 use Rattle.layout.proofs.ReadBack.{ReadWhole}
 use Rattle.layout.proofs.Widths.{record-fits}
 use Rattle.bursts.specs.declared.Beat.the-variants.{Quiet}
-use Rattle.page.specs.Store.{stored}
 use Rattle.rules.specs.declared.State.{State}
 use Rattle.rules.specs.declared.Setup.{Setup}
 use Rattle.rules.specs.declared.Verdict.{Verdict}
 use Rattle.rules.specs.declared.Verdict.the-variants.{Taken, Refused}
+use Rattle.rules.specs.Parts.{state-module}
 use Rattle.rules.specs.Numbers.{first-broken, number-of, interval-of}
 use Rattle.rules.specs.Rules.{ask}
-use Rattle.rules.specs.After.{own-beat, next}
+use Rattle.rules.specs.After.{own-beat, next, page-next}
 use Rattle.device.specs.Turn.{Turned, turned, turn-of}
 use Rattle.rules.specs.OneRecord.{state-rules, entry-rules, Stepped, stepped, answer-of, refused, judged, step}
 use Rattle.parts.specs.Reach.{Call}
@@ -35,7 +36,7 @@ from-turn k x =
 module _ (u : Setup) (s : State) (r : Record) (page : List ℕ) where
   pub turn-taken : ask u s r ≡ Taken
       → turn-of u s r page
-      ≡ turned (record { verdict = Taken; beat = own-beat s r; next = next u s r }) (stored (s .core .bank) (s .core .row) (r .dq) (own-beat s r) page)
+      ≡ turned (record { verdict = Taken; beat = own-beat s r; next = next u s r }) (page-next s r page)
   unfolding turn-of
   turn-taken p = rw (p, turn-of)
 
@@ -65,11 +66,11 @@ module _ (u : Setup) (s : State) (bytes page : List ℕ) where
     pub step-unfit : (n i : ℕ) → first-broken (state-rules u s (length page)) ≡ Refused n i → step u s bytes page ≡ refused n i 0 s page
     step-unfit n i p = entry-refused u s bytes page n i (entry-state ∙ p)
 
-    pub step-turn : {r : Record} → first-broken (state-rules u s (length page)) ≡ Taken → r ≡ record-of bytes
+    pub step-turn : {r : Record} → first-broken (state-rules u s (length page)) ≡ Taken → r ≡ record-of (state-module s) bytes
         → step u s bytes page ≡ from-turn (s .core .number) (turn-of u s r page)
     step-turn p e =
         step-entered u s bytes page (entry-state ∙ p)
-        ∙ judged-turn u s (record-of bytes) page
+        ∙ judged-turn u s (record-of (state-module s) bytes) page
         ∙ ap (λ (x : Record). from-turn (s .core .number) (turn-of u s x page)) (sym e)
 
 -- what a call that is entered may rely on
@@ -86,5 +87,5 @@ call-of u s lent r p w =
     }
 
 -- a record that was read keeps to its widths
-pub read-widths : {bytes : List ℕ} {r : Record} → ReadWhole bytes r → Widths r
-read-widths {bytes} w = subst (λ (x : Record). Widths x) (sym (w .read)) (record-fits bytes)
+pub read-widths : {m : Module} {bytes : List ℕ} {r : Record} → ReadWhole m bytes r → Widths r
+read-widths {m} {bytes} w = subst (λ (x : Record). Widths x) (sym (w .read)) (record-fits m bytes)

@@ -25,6 +25,7 @@ abbrev pub core-of : Core → ℕ → Event → StartUp → Bus → Core
 core-of c number last startup bus =
     record {
       period = c .period;
+      grade = c .grade;
       bank = c .bank;
       row = c .row;
       number = number;

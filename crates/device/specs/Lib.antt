@@ -1,2 +1,3 @@
 pub mod Turn
 pub mod InPlace
+pub mod Entry

@@ -3,13 +3,12 @@ use Prim.Native.Nat.{ℕ}
 use mathlib.Core.List.{List}
 use Rattle.layout.specs.declared.Record.{Record}
 use Rattle.bursts.specs.declared.Beat.the-variants.{Quiet}
-use Rattle.page.specs.Store.{stored}
 use Rattle.rules.specs.declared.State.{State}
 use Rattle.rules.specs.declared.Setup.{Setup}
 use Rattle.rules.specs.declared.Verdict.the-variants.{Taken, Refused}
 use Rattle.device.specs.declared.Turn.{Turn}
 use Rattle.rules.specs.Rules.{ask}
-use Rattle.rules.specs.After.{own-beat, next}
+use Rattle.rules.specs.After.{own-beat, next, page-next}
 
 -- what a turn leaves: verdict, beat and state, and the page
 pub record Turned : Type 0 where
@@ -25,6 +24,6 @@ turn-of u s r page =
     elim (ask u s r) [
       | Taken ↦
           turned (record { verdict = Taken; beat = own-beat s r; next = next u s r })
-          (stored (s .core .bank) (s .core .row) (r .dq) (own-beat s r) page)
+          (page-next s r page)
       | Refused n i ↦ turned (record { verdict = Refused n i; beat = Quiet; next = s }) page
     ]

@@ -22,6 +22,7 @@ use rules::Verdict;
 use taking::leaving;
 use units::Clock;
 use units::Event;
+use units::Module;
 
 // All but the banks.
 fn core_from(c: Core, k: Command, r: Record, n: Clock, bus: Bus) -> Core
@@ -34,6 +35,7 @@ fn core_from(c: Core, k: Command, r: Record, n: Clock, bus: Bus) -> Core
     let period = c.period;
     Core {
         period,
+        grade: c.grade,
         bank: c.bank,
         row: c.row,
         number: c.number + 1,
@@ -87,7 +89,8 @@ pub fn turn(u: Setup, s: State, r: Record, page: &mut [u8]) -> Turn
     let beat = taken.beat;
     let next = taken.next;
     let core = s.core;
-    page::stored(core.bank, core.row, r.dq, beat, page);
+    let m = Module::of_grade(core.grade);
+    page::stored(m, core.bank, core.row, r.dq, beat, page);
     Turn {
         verdict: v,
         beat,

@@ -2,6 +2,7 @@
 ghost use mathlib.Core.Path.{_≡_};
 ghost use Prim.Native.Nat.{_≤_, _*_, _+_};
 ghost use lib.ListN.{length, set, drop};
+ghost use Rattle.units.specs.Module.{module-of};
 ghost use Rattle.layout.specs.Bytes.{records-of};
 ghost use Rattle.rules.specs.Numbers.{first-broken};
 ghost use Rattle.rules.specs.Parts.{start};
@@ -33,6 +34,7 @@ use rules::Verdict;
 use taking::leaving;
 use units::Clock;
 use units::Event;
+use units::Module;
 use units::Ps;
 
 fn cells_word(kind: u8, c: Cells) -> u64
@@ -108,6 +110,7 @@ fn core_of(c: Core, number: u64, last: Event, startup: StartUp, bus: Bus) -> Cor
     let period = c.period;
     Core {
         period,
+        grade: c.grade,
         bank: c.bank,
         row: c.row,
         number,
@@ -136,9 +139,10 @@ fn fold(
     beats: &mut [u64],
 ) -> Ran
     requires { ⌜ (length (now bytes) ≡ 16 * count) × Able u (whole core banks) count ⌝ }
-    ensures { λ x. ⌜ left x (now (page .exit)) (now (beats .exit)) ≡ fold u (whole core banks) (records-of count (now (bytes .entry))) (now (page .entry)) (now (beats .entry)) ⌝ }
+    ensures { λ x. ⌜ left x (now (page .exit)) (now (beats .exit)) ≡ fold u (whole core banks) (records-of (module-of (core .grade)) count (now (bytes .entry))) (now (page .entry)) (now (beats .entry)) ⌝ }
 {
     let t = u.table;
+    let m = Module::of_grade(core.grade);
     let mut number = core.number;
     let mut last = core.last;
     let mut startup = core.startup;
@@ -147,7 +151,7 @@ fn fold(
     let mut words = words_at(bytes, 0);
     let mut j = 0;
     while j < count {
-        let r = layout::record_from(words.first, words.second);
+        let r = layout::record_from(m, words.first, words.second);
         let n = time::clock_of(last, r.skipped);
         let c = core_of(core, number, last, startup, bus);
         let v = inplace::ask(t, c, &held, r, n);
@@ -168,7 +172,7 @@ fn fold(
         let driven = bus.reads;
         let beat = databus::beat_on(last, masks, write, driven, r.masks, n);
         inplace::mark_bank(beat, n, &mut held);
-        page::stored(core.bank, core.row, r.dq, beat, page);
+        page::stored(m, core.bank, core.row, r.dq, beat, page);
         report(beats, number, beat, n);
         last = Event::On(n);
         number += 1;
@@ -197,9 +201,9 @@ fn records_verdict(u: Setup, s: State, bytes: usize, lent: usize) -> Verdict
 }
 
 impl Device {
-    // Before the first record: the trace's period, and the watched bank and row.
-    pub fn start(period: Ps, bank: u8, row: u16) -> Device
-        ensures { λ r. ⌜ r .0 ≡ start period bank row ⌝ }
+    // Before the first record: the trace's period and grade, and the watched bank and row.
+    pub fn start(period: Ps, grade: u8, bank: u8, row: u16) -> Device
+        ensures { λ r. ⌜ r .0 ≡ start period grade bank row ⌝ }
     {
         let status = Status::NotStarted;
         let never = Event::Never;
@@ -218,6 +222,7 @@ impl Device {
         let bus = Bus::quiet();
         let core = Core {
             period,
+            grade,
             bank,
             row,
             number: 0,

@@ -2,6 +2,7 @@
 ghost use mathlib.Core.Path.{_≡_};
 ghost use Rattle.rules.specs.Numbers.{first-broken, number-of, interval-of};
 ghost use Rattle.rules.specs.OneRecord.{state-rules, answer-of, stepped, step};
+ghost use Rattle.device.specs.Entry.{lent-rules};
 use crate::Device;
 use crate::Outcome;
 use crate::Turn;
@@ -13,25 +14,37 @@ use rules::Answer;
 use rules::Setup;
 use rules::State;
 use rules::Verdict;
-use units::PAGE_BYTES;
+use units::Module;
 
-// 3, 6, 7 and 25.
+// 6, 7 and 25.
+fn lent_verdict(u: Setup, s: State, lent: usize) -> Verdict
+    ensures { λ x. ⌜ x ≡ first-broken (lent-rules u s lent) ⌝ }
+{
+    let core = s.core;
+    let t = u.table;
+    let m = Module::of_grade(core.grade);
+    if t.fits() {
+        if lent == m.page_bytes() {
+            if admitting::fits(s) {
+                return Verdict::Taken;
+            }
+            return Verdict::refused(25);
+        }
+        return Verdict::refused(7);
+    }
+    Verdict::refused(6)
+}
+
+// 3, 4, 6, 7 and 25.
 pub fn state_verdict(u: Setup, s: State, lent: usize) -> Verdict
     ensures { λ x. ⌜ x ≡ first-broken (state-rules u s lent) ⌝ }
 {
     let core = s.core;
-    let t = u.table;
     if rules::period_fits(core.period) {
-        if t.fits() {
-            if lent == PAGE_BYTES {
-                if admitting::fits(s) {
-                    return Verdict::Taken;
-                }
-                return Verdict::refused(25);
-            }
-            return Verdict::refused(7);
+        if rules::grade_known(core.grade) {
+            return lent_verdict(u, s, lent);
         }
-        return Verdict::refused(6);
+        return Verdict::refused(4);
     }
     Verdict::refused(3)
 }
@@ -59,7 +72,9 @@ impl Device {
     {
         let s = self.0;
         let quiet = Beat::Quiet;
-        let RecordBytes::Whole(r) = layout::read_record(bytes) else {
+        let core = s.core;
+        let m = Module::of_grade(core.grade);
+        let RecordBytes::Whole(r) = layout::read_record(m, bytes) else {
             let v = Verdict::refused(1);
             return answered(v, 0, quiet, s);
         };
@@ -67,7 +82,6 @@ impl Device {
         let Verdict::Taken = v else {
             return answered(v, 0, quiet, s);
         };
-        let core = s.core;
         let turn = call::turn(setup, s, r, page);
         let verdict = turn.verdict;
         let beat = turn.beat;

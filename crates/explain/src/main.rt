@@ -12,6 +12,7 @@ use layout::HeaderBytes;
 use rules::Ran;
 use rules::Setup;
 use speed::SpeedTable;
+use units::Module;
 use units::PAGE_BYTES;
 use units::Ps;
 
@@ -29,7 +30,7 @@ const TEXT_MAX: usize = 4_096;
 
 // What the whole-trace judge says, from a page of zeros and with no beats.
 fn verdict_of(setup: Setup, trace: &[u8]) -> Ran
-    ensures { λ r. ⌜ r ≡ whole-call setup (now (trace .entry)) (replicate page-bytes 0) [] .ran ⌝ }
+    ensures { λ r. ⌜ r ≡ whole-call setup (now (trace .entry)) (replicate (page-bytes Module.Bench) 0) [] .ran ⌝ }
 {
     let mut page = [0u8; PAGE_BYTES];
     let mut none = [0u64; 1];
@@ -40,9 +41,9 @@ fn verdict_of(setup: Setup, trace: &[u8]) -> Ran
 fn halt(setup: Setup, h: Header, ran: Ran, trace: &[u8]) -> Halt {
     let v = ran.verdict;
     let mut page = [0u8; PAGE_BYTES];
-    let start = Device::start(Ps(h.period as u64), h.bank, h.row);
+    let start = Device::start(Ps(h.period as u64), h.grade, h.bank, h.row);
     let state = walking::state_at(start, setup, trace, ran.reported, &mut page);
-    let record = walking::record_of(trace, ran.reported);
+    let record = walking::record_of(h.grade, trace, ran.reported);
     Halt {
         number: v.number(),
         interval: v.interval(),

@@ -86,7 +86,7 @@ fn put_cells(code: u8, r: Record, status: Status, buf: &mut [u8], at: usize) -> 
     let access = (code == 4) | (code == 5);
     let open = access & banks::is_open(status);
     let row = banks::row_of(status) as u64;
-    let column = layout::column_of(r.addr) as u64;
+    let column = r.column as u64;
     let one = access | (code == 3) | ((code == 2) & !every);
     let banked = put_if(one, b" bank", r.ba as u64, buf, at);
     let activated = put_if(code == 3, b" row", r.addr as u64, buf, banked);

@@ -4,6 +4,7 @@ use layout::Record;
 use layout::RecordBytes;
 use rules::Setup;
 use rules::State;
+use units::Module;
 
 // What a refused record found: number and interval, its own number, the state before it, and the record.
 pub struct Halt {
@@ -28,9 +29,10 @@ fn bytes_of(trace: &[u8], k: u64) -> &[u8] {
 }
 
 // Record k, or one of zeros where there is none.
-pub fn record_of(trace: &[u8], k: u64) -> Record {
-    let RecordBytes::Whole(r) = layout::read_record(bytes_of(trace, k)) else {
-        return layout::record_from(0, 0);
+pub fn record_of(grade: u8, trace: &[u8], k: u64) -> Record {
+    let m = Module::of_grade(grade);
+    let RecordBytes::Whole(r) = layout::read_record(m, bytes_of(trace, k)) else {
+        return layout::record_from(m, 0, 0);
     };
     r
 }

@@ -25,7 +25,7 @@ use Rattle.rules.proofs.Admitted.{fits-admitted}
 use Rattle.rules.proofs.Kept.{kept}
 use Rattle.device.proofs.Starts.{records-entered}
 use Rattle.device.proofs.FoldRun.{fold-run}
-use Rattle.hawsehole.specs.Trace.{whole, lent-rules, whole-rules, start-of, records, run-of, judged, judge}
+use Rattle.hawsehole.specs.Trace.{whole, lent-rules, whole-rules, start-of, records, run-of, judged, judge, module-in}
 use Rattle.hawsehole.specs.Numbers.{whole-call}
 use Rattle.hawsehole.proofs.Whole.{entry, judge-entered, judge-refused}
 use Rattle.hawsehole.proofs.InTime.{start-of-admitted}
@@ -71,14 +71,14 @@ module _ (u : Setup) (trace page beats : List ℕ) (p : entry u trace page ≡ T
       let c = header-of trace .count in
       let room : 0 + 16 * c / 16 ≤ 2199023255552 = omega (arith, header-fits trace .count) in
       let none : 16 * c % 16 ≡ 0 = omega arith in
-      rw (rest-long, eq-eqb (16 * c % 16) 0 none, kept 3 0 l p, kept 6 0 l p, kept 7 0 l p, fits-admitted (start-of (header-of trace)) (start-of-admitted trace), le-leb (0 + 16 * c / 16) 2199023255552 room)
+      rw (rest-long, eq-eqb (16 * c % 16) 0 none, kept 3 0 l p, kept 4 0 l p, kept 6 0 l p, kept 7 0 l p, fits-admitted (start-of (header-of trace)) (start-of-admitted trace (kept 4 0 l p)), le-leb (0 + 16 * c / 16) 2199023255552 room)
 
   pub call-records : records-call u (start-of (header-of trace)) (drop 16 trace) page beats ≡ whole-call u trace page beats
   unfolding whole-call
   call-records =
       let count : length (drop 16 trace) / 16 ≡ header-of trace .count = omega (arith, rest-long) in
       records-entered u (start-of (header-of trace)) (drop 16 trace) page beats enters
-      ∙ ap (λ (k : ℕ). fold u (start-of (header-of trace)) (records-of k (drop 16 trace)) page beats) count
+      ∙ ap (λ (k : ℕ). fold u (start-of (header-of trace)) (records-of (module-in trace) k (drop 16 trace)) page beats) count
       ∙ fold-run u (start-of (header-of trace)) (records trace) page beats
       ∙ sym (rw (judge-entered u trace page p))
 

@@ -9,11 +9,12 @@ use lib.Dec.{eqb}
 use lib.ListN.{length, take, drop, set, length-set, length-drop}
 use lib.Seq.{length-take-le}
 use borrow.Author.Tests.{eq-eqb, ne-eqb, eqb-true}
-use Rattle.units.specs.Module.{page-bytes}
+use Rattle.units.specs.Module.{lanes, page-bytes}
 use Rattle.speed.specs.Table.{table-fits}
+use Rattle.units.specs.declared.Module.{Module}
 use Rattle.layout.specs.declared.Record.{Record}
 use Rattle.layout.specs.Bytes.{header-of, record-of, records-of}
-use Rattle.layout.proofs.Widths.{record-fits}
+use Rattle.layout.proofs.Widths.{record-fits, record-on}
 use Rattle.bursts.specs.declared.Beat.{Beat}
 use Rattle.bursts.specs.declared.Beat.the-variants.{Quiet, Stores, Drives}
 use Rattle.page.specs.Store.{put-lanes, put-cells, stored}
@@ -21,11 +22,12 @@ use Rattle.rules.specs.declared.State.{State}
 use Rattle.rules.specs.declared.Setup.{Setup}
 use Rattle.rules.specs.declared.Verdict.{Verdict}
 use Rattle.rules.specs.declared.Verdict.the-variants.{Taken, Refused}
+use Rattle.rules.specs.Parts.{state-module}
 use Rattle.rules.specs.Numbers.{first-broken}
 use Rattle.rules.specs.Rules.{ask}
-use Rattle.rules.specs.After.{own-beat, core-from, core-after, next}
+use Rattle.rules.specs.After.{own-beat, core-from, core-after, next, page-next}
 use Rattle.rules.specs.Run.{line}
-use Rattle.rules.specs.OneRecord.{period-fits, state-rules, entry-rules, Stepped, refused, taken, step}
+use Rattle.rules.specs.OneRecord.{period-fits, grade-known, state-rules, entry-rules, Stepped, refused, taken, step}
 use Rattle.rules.specs.Report.{put-line, left, ran, fold, records-rules, records-call}
 use Rattle.rules.proofs.Admitted.{fits-admitted}
 use Rattle.rules.proofs.Kept.{kept}
@@ -51,15 +53,15 @@ lanes-length (suc k) at low dq page =
     go true = length-set page at (dq % 256)
     go false = refl
 
-stored-length : (bank row dq : ℕ) (b : Beat) (page : List ℕ) → length (stored bank row dq b page) ≡ length page
+stored-length : (m : Module) (bank row dq : ℕ) (b : Beat) (page : List ℕ) → length (stored m bank row dq b page) ≡ length page
 unfolding stored
-stored-length bank row dq Quiet page = refl
-stored-length bank row dq (Stores c) page = go (eqb (c .bank) bank && eqb (c .row) row)
+stored-length m bank row dq Quiet page = refl
+stored-length m bank row dq (Stores c) page = go (eqb (c .bank) bank && eqb (c .row) row)
   where
-    go : (b : Bool) → length (cond b (put-cells c dq page) page) ≡ length page
-    go true = lanes-length 8 (8 * c .column) (c .lanes) dq page
+    go : (b : Bool) → length (cond b (put-cells m c dq page) page) ≡ length page
+    go true = lanes-length (lanes m) (lanes m * c .column) (c .lanes) dq page
     go false = refl
-stored-length bank row dq (Drives c) page = refl
+stored-length m bank row dq (Drives c) page = refl
 
 -- ── What each call of the walk is entered with ──
 
@@ -67,37 +69,35 @@ stored-length bank row dq (Drives c) page = refl
 record Ready (u : Setup) (s : State) (count : ℕ) (page : List ℕ) : Type 0 where
   able : Able u s count
   period : period-fits (s .core .period) ≡ true
+  grade : grade-known (s .core .grade) ≡ true
   table : table-fits (u .table) ≡ true
-  lent : length page ≡ page-bytes
+  lent : length page ≡ page-bytes (state-module s)
 
--- 1, 3, 6, 7 and 25 pass
+-- 1, 3, 4, 6, 7 and 25 pass
 ready-entered : (u : Setup) (s : State) (count : ℕ) (bytes page : List ℕ) → Ready u s count page → length bytes ≡ 16
     → first-broken (entry-rules u s bytes page) ≡ Taken
 unfolding entry-rules state-rules
 ready-entered u s count bytes page e h =
-    rw (eq-eqb (length bytes) 16 h, e .period, e .table, eq-eqb (length page) page-bytes (e .lent), fits-admitted s (e .able .state))
-
--- the page that a taken record leaves
-abbrev page-next : State → Record → List ℕ → List ℕ
-page-next s r page = stored (s .core .bank) (s .core .row) (r .dq) (own-beat s r) page
+    rw (eq-eqb (length bytes) 16 h, e .period, e .grade, e .table, eq-eqb (length page) (page-bytes (state-module s)) (e .lent), fits-admitted s (e .able .state))
 
 -- a taken record leaves the same for one record less
-ready-next : (u : Setup) (s : State) (k : ℕ) (bytes page : List ℕ) → Ready u s (suc k) page → ask u s (record-of bytes) ≡ Taken
-    → Ready u (next u s (record-of bytes)) k (page-next s (record-of bytes) page)
+ready-next : (u : Setup) (s : State) (k : ℕ) (bytes page : List ℕ) → Ready u s (suc k) page → ask u s (record-of (state-module s) bytes) ≡ Taken
+    → Ready u (next u s (record-of (state-module s) bytes)) k (page-next s (record-of (state-module s) bytes) page)
 unfolding next core-after core-from
 ready-next u s k bytes page e p =
     record {
-      able = able-next u s k (record-of bytes) (subst (λ (c : ℕ). Able u s c) (sym (add-one k)) (e .able)) (record-fits bytes) p;
+      able = able-next u s k (record-of (state-module s) bytes) (subst (λ (c : ℕ). Able u s c) (sym (add-one k)) (e .able)) (record-fits (state-module s) bytes) (record-on (state-module s) bytes) p;
       period = e .period;
+      grade = e .grade;
       table = e .table;
-      lent = stored-length (s .core .bank) (s .core .row) (record-of bytes .dq) (own-beat s (record-of bytes)) page ∙ e .lent;
+      lent = stored-length (state-module s) (s .core .bank) (s .core .row) (record-of (state-module s) bytes .dq) (own-beat s (record-of (state-module s) bytes)) page ∙ e .lent;
     }
 
 -- ── One call ──
 
 module _ (u : Setup) (s : State) (k : ℕ) (bytes page beats : List ℕ) where
   abbrev first : Record
-  first = record-of (take 16 bytes)
+  first = record-of (state-module s) (take 16 bytes)
 
   -- a call that takes its record
   walk-taken : step u s (take 16 bytes) page ≡ taken u s first page
@@ -135,15 +135,15 @@ module _ (u : Setup) (s : State) (k : ℕ) (bytes page beats : List ℕ) where
 -- ── Call after call ──
 
 ready-walk : (u : Setup) (s : State) (count : ℕ) (bytes page beats : List ℕ) → length bytes ≡ 16 * count → Ready u s count page
-    → walk u s count bytes page beats ≡ fold u s (records-of count bytes) page beats
-unfolding walk fold records-of
+    → walk u s count bytes page beats ≡ fold u s (records-of (state-module s) count bytes) page beats
+unfolding walk fold records-of next core-after core-from
 ready-walk u s zero bytes page beats h e = refl
 ready-walk u s (suc k) bytes page beats h e =
     go (ask u s r) refl
     (λ p. ready-walk u (next u s r) k (drop 16 bytes) (page-next s r page) (put-line (s .core .number) (line s r) beats) rest (ready-next u s k (take 16 bytes) page e p))
   where
     r : Record
-    r = record-of (take 16 bytes)
+    r = record-of (state-module s) (take 16 bytes)
 
     rest : length (drop 16 bytes) ≡ 16 * k
     rest = simp length-drop (omega (arith, h))
@@ -154,12 +154,12 @@ ready-walk u s (suc k) bytes page beats h e =
     go : (v : Verdict) → ask u s r ≡ v
         → (ask u s r ≡ Taken
         → walk u (next u s r) k (drop 16 bytes) (page-next s r page) (put-line (s .core .number) (line s r) beats)
-        ≡ fold u (next u s r) (records-of k (drop 16 bytes)) (page-next s r page) (put-line (s .core .number) (line s r) beats))
-        → walk u s (suc k) bytes page beats ≡ fold u s (r ∷ records-of k (drop 16 bytes)) page beats
+        ≡ fold u (next u s r) (records-of (state-module s) k (drop 16 bytes)) (page-next s r page) (put-line (s .core .number) (line s r) beats))
+        → walk u s (suc k) bytes page beats ≡ fold u s (r ∷ records-of (state-module s) k (drop 16 bytes)) page beats
     go Taken p ih =
-        asked-taken u s k bytes page beats enter p ∙ ih p ∙ sym (fold-taken u s r (records-of k (drop 16 bytes)) page beats p)
+        asked-taken u s k bytes page beats enter p ∙ ih p ∙ sym (fold-taken u s r (records-of (state-module s) k (drop 16 bytes)) page beats p)
     go (Refused n i) p ih =
-        asked-refused u s k bytes page beats enter n i p ∙ sym (fold-refused u s r (records-of k (drop 16 bytes)) page beats n i p)
+        asked-refused u s k bytes page beats enter n i p ∙ sym (fold-refused u s r (records-of (state-module s) k (drop 16 bytes)) page beats n i p)
 
 -- ── From what the call of many records tries before its first ──
 
@@ -172,14 +172,15 @@ ready u s count bytes page h p =
     record {
       able = subst (λ (c : ℕ). Able u s c) n (entry-of u s bytes (length page) p .able);
       period = kept 3 0 l p;
+      grade = kept 4 0 l p;
       table = kept 6 0 l p;
-      lent = eqb-true (length page) page-bytes (kept 7 0 l p);
+      lent = eqb-true (length page) (page-bytes (state-module s)) (kept 7 0 l p);
     }
 
--- THE ONE-RECORD CALL ON EACH RECORD IN TURN IS THE FOLD, where 1, 3, 6, 7 and 25 pass before the first
+-- THE ONE-RECORD CALL ON EACH RECORD IN TURN IS THE FOLD, where 1, 3, 4, 6, 7 and 25 pass before the first
 pub walk-fold : (u : Setup) (s : State) (count : ℕ) (bytes page beats : List ℕ) → length bytes ≡ 16 * count
     → first-broken (records-rules u s (length bytes) (length page)) ≡ Taken
-    → walk u s count bytes page beats ≡ fold u s (records-of count bytes) page beats
+    → walk u s count bytes page beats ≡ fold u s (records-of (state-module s) count bytes) page beats
 walk-fold u s count bytes page beats h p = ready-walk u s count bytes page beats h (ready u s count (length bytes) page h p)
 
 -- and so the call of many records

@@ -4,6 +4,7 @@ use native.Mathlib.Omega.{arith}
 use mathlib.Core.Path.{_≡_, refl, ap, sym, _∙_}
 use mathlib.Core.List.{List, [], _∷_}
 use lib.ListN.{length}
+use Rattle.units.specs.declared.Module.{Module}
 use Rattle.layout.specs.declared.Record.{Record}
 use Rattle.layout.specs.Bytes.{header-of}
 use Rattle.rules.specs.declared.Setup.{Setup}
@@ -45,14 +46,14 @@ reported-is u trace page =
     (λ p. omega (arith, reports u (start-of (header-of trace)) (records trace)))
     (λ n i p. refl)
 
-no-lines : (bank row : ℕ) (rs : List Record) (page : List ℕ) → page-after bank row rs [] page ≡ page
+no-lines : (m : Module) (bank row : ℕ) (rs : List Record) (page : List ℕ) → page-after m bank row rs [] page ≡ page
 unfolding page-after
-no-lines bank row [] page = refl
-no-lines bank row (r ∷ rs) page = refl
+no-lines m bank row [] page = refl
+no-lines m bank row (r ∷ rs) page = refl
 
 -- the page that is left is the page after the records taken
 pub page-is : (u : Setup) (trace page : List ℕ) → judge u trace page .page ≡ page-of trace (judge u trace page .lines) page
 page-is u trace page =
     by-entry (λ j. j .page ≡ page-of trace (j .lines) page) u trace page
     (λ p. refl)
-    (λ n i p. sym (no-lines _ _ (records trace) page))
+    (λ n i p. sym (no-lines _ _ _ (records trace) page))

@@ -1,10 +1,11 @@
 -- A whole trace from its bytes: verdicts 1 to 7, then record after record; verdict, beats and page (01, Verdicts). Definitions only.
 use Prim.Native.Nat.{ℕ, _+_, _*_}
-use mathlib.Core.Bool.{Bool, _&&_, _||_}
+use mathlib.Core.Bool.{Bool, _&&_}
 use mathlib.Core.List.{List, [], _∷_}
 use lib.Dec.{leb, eqb}
 use lib.ListN.{length, take, drop}
-use Rattle.units.specs.Module.{page-bytes}
+use Rattle.units.specs.declared.Module.{Module}
+use Rattle.units.specs.Module.{page-bytes, module-of}
 use Rattle.units.specs.Time.{time}
 use Rattle.speed.specs.Table.{table-fits}
 use Rattle.layout.specs.declared.Header.{Header}
@@ -17,20 +18,16 @@ use Rattle.rules.specs.declared.Verdict.the-variants.{Taken, Refused}
 use Rattle.rules.specs.Numbers.{Rule, rule, first-broken}
 use Rattle.rules.specs.Parts.{start}
 use Rattle.rules.specs.Run.{Line, Run, run, page-after}
-use Rattle.rules.specs.OneRecord.{period-fits}
+use Rattle.rules.specs.OneRecord.{period-fits, grade-known}
 
 -- "length not 16 + 16 x count"
 abbrev pub whole : Header → ℕ → Bool
 whole h bytes = leb 16 bytes && eqb bytes (16 + 16 * h .count)
 
--- "speed grade 8 (1 = -13E, 2 = -133)"
-abbrev pub grade-known : ℕ → Bool
-grade-known g = eqb g 1 || eqb g 2
-
 -- 5, 6 and 7, with a page of so many bytes
 unfoldable pub lent-rules : Setup → Header → ℕ → List Rule
 lent-rules u h lent =
-    rule 5 0 (eqb (h .zeros) 0) ∷ rule 6 0 (table-fits (u .table)) ∷ rule 7 0 (eqb lent page-bytes) ∷ []
+    rule 5 0 (eqb (h .zeros) 0) ∷ rule 6 0 (table-fits (u .table)) ∷ rule 7 0 (eqb lent (page-bytes (module-of (h .grade)))) ∷ []
 
 -- rows 1 to 7, for a trace of so many bytes with this header
 unfoldable pub whole-rules : Setup → Header → ℕ → ℕ → List Rule
@@ -48,20 +45,24 @@ pub record Judged : Type 0 where
   pub lines : List Line
   pub page : List ℕ
 
+-- "The grade in header or state fixes the geometry" (02, K9)
+abbrev pub module-in : List ℕ → Module
+module-in trace = module-of (header-of trace .grade)
+
 -- the state before the first record of a trace with this header
 abbrev pub start-of : Header → State
-start-of h = start (time (h .period)) (h .bank) (h .row)
+start-of h = start (time (h .period)) (h .grade) (h .bank) (h .row)
 
 -- the records of a trace
 abbrev pub records : List ℕ → List Record
-records trace = records-of (header-of trace .count) (drop 16 trace)
+records trace = records-of (module-in trace) (header-of trace .count) (drop 16 trace)
 
 abbrev pub run-of : Setup → List ℕ → Run
 run-of u trace = run u (start-of (header-of trace)) (records trace)
 
 -- the page of a trace's watched bank and row after these lines
 abbrev pub page-of : List ℕ → List Line → List ℕ → List ℕ
-page-of trace lines page = page-after (header-of trace .bank) (header-of trace .row) (records trace) lines page
+page-of trace lines page = page-after (module-in trace) (header-of trace .bank) (header-of trace .row) (records trace) lines page
 
 abbrev pub judged : List ℕ → List ℕ → Run → Judged
 judged trace page v =

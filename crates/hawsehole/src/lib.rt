@@ -13,7 +13,7 @@ use rules::Setup;
 use rules::Verdict;
 use speed::SpeedTable;
 use units::Clock;
-use units::PAGE_BYTES;
+use units::Module;
 use units::Ps;
 
 // 5, 6 and 7.
@@ -25,7 +25,8 @@ fn lent_verdict(u: Setup, h: Header, lent: usize) -> Verdict
         return Verdict::refused(5);
     }
     if t.fits() {
-        if lent == PAGE_BYTES {
+        let m = Module::of_grade(h.grade);
+        if lent == m.page_bytes() {
             return Verdict::Taken;
         }
         return Verdict::refused(7);
@@ -45,7 +46,7 @@ pub fn whole_verdict(u: Setup, h: Header, bytes: usize, lent: usize) -> Verdict
         return Verdict::refused(2);
     }
     if rules::period_fits(Ps(h.period as u64)) {
-        if (h.grade == 1) | (h.grade == 2) {
+        if rules::grade_known(h.grade) {
             return lent_verdict(u, h, lent);
         }
         return Verdict::refused(4);
@@ -72,7 +73,7 @@ pub fn judge(u: Setup, trace: &[u8], page: &mut [u8], beats: &mut [u64]) -> Ran
             reported: 0,
         };
     };
-    let start = Device::start(Ps(h.period as u64), h.bank, h.row);
+    let start = Device::start(Ps(h.period as u64), h.grade, h.bank, h.row);
     start.records(u, &trace[16..], page, beats)
 }
 

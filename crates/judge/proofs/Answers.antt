@@ -1,9 +1,10 @@
 -- What is printed of a trace, from what the judge answered of it. Assumes nothing.
 use Prim.Native.Nat.{ℕ, _+_, _*_, _≤_}
-use mathlib.Core.Path.{_≡_, ap, _∙_}
+use mathlib.Core.Path.{_≡_, ap, sym, _∙_}
 use mathlib.Core.List.{List}
 use native.Mathlib.Omega.{arith}
 use lib.ListN.{length, replicate}
+use Rattle.units.proofs.Sizes.{bench-page}
 use Rattle.speed.specs.declared.SpeedTable.{SpeedTable}
 use Rattle.speed.specs.Table.{of-grade}
 use Rattle.layout.specs.declared.HeaderBytes.{HeaderBytes}
@@ -22,7 +23,10 @@ report-printed : (trace : List ℕ) (h : HeaderBytes) (g : ℕ) (t : SpeedTable)
 unfolding printed answer-of
 report-printed trace h g t word page words p q r e =
     let table : t ≡ of-grade (grade-of (read-header trace)) = r ∙ ap of-grade (q ∙ ap grade-of p) in
-    ap (λ (a : Answered). report (a .beats) (a .word)) (e ∙ ap (λ (t : SpeedTable). judge-beats t trace (replicate 16384 0) (replicate 8190 0)) table)
+    ap (λ (a : Answered). report (a .beats) (a .word))
+    (e
+    ∙ ap (λ (t : SpeedTable). judge-beats t trace (replicate 16384 0) (replicate 8190 0)) table
+    ∙ ap (λ (n : ℕ). judge-beats (of-grade (grade-of (read-header trace))) trace (replicate n 0) (replicate 8190 0)) (sym bench-page))
 
 -- a buffer of 450,560 bytes holds the report of 4,095 records
 report-holds : (words buf after : List ℕ) (word bytes : ℕ) → length words ≡ 8190 → length buf ≡ 450560

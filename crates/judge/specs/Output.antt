@@ -4,6 +4,7 @@ use mathlib.Core.Bool.{cond}
 use mathlib.Core.List.{List}
 use lib.Dec.{ltb}
 use lib.ListN.{length, replicate}
+use Rattle.units.specs.declared.Module.the-variants.{Bench}
 use Rattle.units.specs.Module.{page-bytes}
 use Rattle.speed.specs.Table.{of-grade}
 use Rattle.layout.specs.declared.HeaderBytes.{HeaderBytes}
@@ -24,10 +25,10 @@ abbrev pub grade-of : HeaderBytes → ℕ
 grade-of (Headed h) = h .grade
 grade-of TooShort = 0
 
--- the judge's answer, "from a page of zeros", and two words for each record
+-- the judge's answer, "from a page of zeros" (either grade is the bench's), and two words for each record
 unfoldable pub answer-of : List ℕ → Answered
 answer-of trace =
-    judge-beats (of-grade (grade-of (read-header trace))) trace (replicate page-bytes 0) (replicate (2 * records-max) 0)
+    judge-beats (of-grade (grade-of (read-header trace))) trace (replicate (page-bytes Bench) 0) (replicate (2 * records-max) 0)
 
 -- what is printed of a trace
 unfoldable pub printed : List ℕ → List ℕ

@@ -3,3 +3,4 @@ pub mod Joined
 pub mod ReadBack
 pub mod Widths
 pub mod Words
+pub mod Pins

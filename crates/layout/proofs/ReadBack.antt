@@ -7,36 +7,37 @@ use mathlib.Core.Bool.{Bool, true, false, cond}
 use mathlib.Core.List.{List}
 use lib.Dec.{leb, eqb}
 use lib.ListN.{length}
+use Rattle.units.specs.declared.Module.{Module}
 use Rattle.layout.specs.declared.Header.{Header}
 use Rattle.layout.specs.declared.HeaderBytes.the-variants.{Headed, TooShort}
 use Rattle.layout.specs.declared.Record.{Record}
 use Rattle.layout.specs.declared.RecordBytes.the-variants.{Whole, WrongLength}
 use Rattle.layout.specs.Bytes.{header-of, record-of, read-header, read-record}
 
-pub record ReadWhole (bytes : List ℕ) (r : Record) : Type 0 where
+pub record ReadWhole (m : Module) (bytes : List ℕ) (r : Record) : Type 0 where
   pub sixteen : eqb (length bytes) 16 ≡ true
-  pub read : r ≡ record-of bytes
+  pub read : r ≡ record-of m bytes
 
-pub whole : (bytes : List ℕ) (r : Record) → read-record bytes ≡ Whole r → ReadWhole bytes r
+pub whole : (m : Module) (bytes : List ℕ) (r : Record) → read-record m bytes ≡ Whole r → ReadWhole m bytes r
 unfolding read-record
-whole bytes r h = go (eqb (length bytes) 16) refl h
+whole m bytes r h = go (eqb (length bytes) 16) refl h
   where
-    go : (x : Bool) → eqb (length bytes) 16 ≡ x → cond x (Whole (record-of bytes)) WrongLength ≡ Whole r → ReadWhole bytes r
+    go : (x : Bool) → eqb (length bytes) 16 ≡ x → cond x (Whole (record-of m bytes)) WrongLength ≡ Whole r → ReadWhole m bytes r
     go true e h = record { sixteen = e; read = cc }
     go false e h = let z : _≡_ {A = ℕ} 0 1 = cc in absurd (omega arith)
 
-pub wrong : (bytes : List ℕ) → read-record bytes ≡ WrongLength → eqb (length bytes) 16 ≡ false
+pub wrong : (m : Module) (bytes : List ℕ) → read-record m bytes ≡ WrongLength → eqb (length bytes) 16 ≡ false
 unfolding read-record
-wrong bytes h = go (eqb (length bytes) 16) refl h
+wrong m bytes h = go (eqb (length bytes) 16) refl h
   where
-    go : (x : Bool) → eqb (length bytes) 16 ≡ x → cond x (Whole (record-of bytes)) WrongLength ≡ WrongLength → eqb (length bytes) 16 ≡ false
+    go : (x : Bool) → eqb (length bytes) 16 ≡ x → cond x (Whole (record-of m bytes)) WrongLength ≡ WrongLength → eqb (length bytes) 16 ≡ false
     go true e h = let z : _≡_ {A = ℕ} 0 1 = cc in absurd (omega arith)
     go false e h = e
 
 -- 16 bytes are a record
-pub never-wrong : (bytes : List ℕ) → length bytes ≡ 16 → read-record bytes ≡ WrongLength → ⊥
-never-wrong bytes e h =
-    let d : _≡_ {A = Bool} true false = sym (eq-eqb (length bytes) 16 e) ∙ wrong bytes h in
+pub never-wrong : (m : Module) (bytes : List ℕ) → length bytes ≡ 16 → read-record m bytes ≡ WrongLength → ⊥
+never-wrong m bytes e h =
+    let d : _≡_ {A = Bool} true false = sym (eq-eqb (length bytes) 16 e) ∙ wrong m bytes h in
     let z : _≡_ {A = ℕ} 0 1 = cc in
     omega arith
 

@@ -4,6 +4,8 @@ use mathlib.Core.Bool.{Bool, _&&_, _||_}
 use mathlib.Core.List.{List, [], _∷_}
 use lib.Dec.{ltb, eqb}
 use lib.ListN.{getD}
+use Rattle.units.specs.declared.Module.{Module}
+use Rattle.units.specs.Module.{columns}
 use Rattle.layout.specs.declared.Record.{Record}
 use Rattle.layout.specs.declared.Command.{Command}
 use Rattle.layout.specs.declared.Command.the-variants.{
@@ -58,6 +60,10 @@ a10 r = a10-of (r .addr)
 -- "Column is A11 then A9 to A0; A12 is ignored"
 abbrev pub column-of : ℕ → ℕ
 column-of addr = addr / 2048 % 2 * 1024 + addr % 1024
+
+-- of those, the bits that the module has: of the handheld "A11, A9 and A8 of a column are ignored"
+unfoldable pub column-on : Module → ℕ → ℕ
+column-on m addr = column-of addr % columns m
 
 -- a PRECHARGE is for bank i: "one bank or (A10 HIGH) each of the four"
 abbrev pub covers : ℕ → ℕ → ℕ → Bool

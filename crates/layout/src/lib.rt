@@ -1,11 +1,13 @@
 // What the bytes of a trace say: its header, its records, and the command of a record.
+ghost use Prim.Native.Nat.{_<_, _+_};
 ghost use mathlib.Core.Path.{_≡_};
 ghost use mathlib.Core.Bool.{cond};
 ghost use mathlib.Core.List.{[], _∷_};
 ghost use lib.Dec.{leb};
 ghost use lib.ListN.{length};
-ghost use Rattle.layout.specs.Bytes.{number-after, word-at, header-from, record-from, read-header, read-record};
-ghost use Rattle.layout.specs.Commands.{command-of, code-of, executable, access, a10-of, column-of, covers};
+ghost use Rattle.layout.specs.Bytes.{number-after, word-at, header-from, has-pins, lane-masks, record-from, read-header, read-record};
+ghost use Rattle.layout.specs.Commands.{command-of, code-of, executable, access, a10-of, column-of, column-on, covers};
+use units::Module;
 
 // The trace's first 16 bytes.
 pub struct Header {
@@ -25,6 +27,7 @@ pub struct Record {
     pub code: u8,
     pub ba: u8,
     pub addr: u16,
+    pub column: u16,
     pub masks: u8,
     pub zeros: u16,
     pub dq: u64,
@@ -85,19 +88,55 @@ pub fn header_from(first: u64, second: u64) -> Header
     }
 }
 
-// A record out of its two words: skipped clocks 24 bits, CKE 1, CS# RAS# CAS# WE# 4, BA 2, A12 to A0 13, DQMB7 to
-// DQMB0 8, zeros 12; then DQ63 to DQ0.
-pub fn record_from(first: u64, second: u64) -> Record
-    ensures { λ r. ⌜ r ≡ record-from first second ⌝ }
+// The module has a pin for each bit of address, masks and data that is set. The bench has one for every bit.
+fn has_pins(m: Module, addr: u16, masks: u8, dq: u64) -> bool
+    requires { ⌜ addr < 8192 ⌝ }
+    ensures { λ r. ⌜ r ≡ has-pins m addr masks dq ⌝ }
 {
+    match m {
+        Module::Bench => true,
+        Module::Handheld => (addr < 4_096) & (masks < 4) & (dq < 65_536),
+    }
+}
+
+// A lane that the module has not is masked on each clock.
+fn lane_masks(m: Module, masks: u8) -> u8
+    ensures { λ r. ⌜ r ≡ lane-masks m masks ⌝ }
+{
+    match m {
+        Module::Bench => masks,
+        Module::Handheld => masks % 4 + 252,
+    }
+}
+
+// The zero bits, with one more where a bit is set that the module has no pin for.
+fn zeros_with(zeros: u16, pins: bool) -> u16
+    requires { ⌜ zeros < 4096 ⌝ }
+    ensures { λ r. ⌜ r ≡ (zeros + cond pins 0 1) ⌝ }
+{
+    if pins { zeros } else { zeros + 1 }
+}
+
+// A record out of its two words: skipped clocks 24 bits, CKE 1, CS# RAS# CAS# WE# 4, BA 2, A12 to A0 13, DQMB7 to
+// DQMB0 8, zeros 12; then DQ63 to DQ0. What the module has no pin for is told here and nowhere later.
+pub fn record_from(m: Module, first: u64, second: u64) -> Record
+    ensures { λ r. ⌜ r ≡ record-from m first second ⌝ }
+{
+    let addr = (first / 1_048_576 % 8_192) as u16;
+    let masks = (first / 4_096 % 256) as u8;
+    let zeros = (first % 4_096) as u16;
+    let pins = has_pins(m, addr, masks, second);
+    let lanes = lane_masks(m, masks);
+    let column = column_on(m, addr);
     Record {
         skipped: (first / 1_099_511_627_776 % 16_777_216) as u32,
         cke: (first / 549_755_813_888 % 2) as u8,
         code: (first / 34_359_738_368 % 16) as u8,
         ba: (first / 8_589_934_592 % 4) as u8,
-        addr: (first / 1_048_576 % 8_192) as u16,
-        masks: (first / 4_096 % 256) as u8,
-        zeros: (first % 4_096) as u16,
+        addr,
+        column,
+        masks: lanes,
+        zeros: zeros_with(zeros, pins),
         dq: second,
     }
 }
@@ -134,13 +173,13 @@ pub fn read_header(bytes: &[u8]) -> HeaderBytes
 }
 
 // One record: "a record not 16 bytes long gives 1".
-pub fn read_record(bytes: &[u8]) -> RecordBytes
-    ensures { λ r. ⌜ r ≡ read-record (now (bytes .entry)) ⌝ }
+pub fn read_record(m: Module, bytes: &[u8]) -> RecordBytes
+    ensures { λ r. ⌜ r ≡ read-record m (now (bytes .entry)) ⌝ }
 {
     if bytes.len() == 16 {
         let first = first_word(bytes);
         let second = first_word(&bytes[8..16]);
-        RecordBytes::Whole(record_from(first, second))
+        RecordBytes::Whole(record_from(m, first, second))
     } else {
         RecordBytes::WrongLength
     }
@@ -208,6 +247,16 @@ pub fn column_of(addr: u16) -> u16
     ensures { λ r. ⌜ r ≡ column-of addr ⌝ }
 {
     addr / 2_048 % 2 * 1_024 + addr % 1_024
+}
+
+// Of those, the bits that the module has.
+fn column_on(m: Module, addr: u16) -> u16
+    ensures { λ r. ⌜ r ≡ column-on m addr ⌝ }
+{
+    match m {
+        Module::Bench => column_of(addr),
+        Module::Handheld => addr % 256,
+    }
 }
 
 // A PRECHARGE is for bank i: "one bank or (A10 HIGH) each of the four".

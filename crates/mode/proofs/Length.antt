@@ -8,18 +8,18 @@ use lib.Dec.{leb}
 use lib.ListN.{getD, List·getD-eq-default}
 use lib.Pow.{pow-pos}
 use borrow.Author.Tests.{leb-true}
-use Rattle.units.specs.Module.{columns}
+use Rattle.units.specs.Module.{bench-columns}
 use Rattle.mode.specs.Word.{length-of}
 use Rattle.mode.proofs.Every.{at-each}
 
 -- the length of M2 to M0 = k
 abbrev pub length-at : ℕ → ℕ
-length-at k = getD (1 ∷ 2 ∷ 4 ∷ 8 ∷ []) k columns
+length-at k = getD (1 ∷ 2 ∷ 4 ∷ 8 ∷ []) k bench-columns
 
 -- past 0 to 3, M2 to M0 mean the row's columns
-pub past-is-columns : (w : ℕ) → 4 ≤ w % 8 → columns ≡ length-of w
+pub past-is-columns : (w : ℕ) → 4 ≤ w % 8 → bench-columns ≡ length-of w
 unfolding length-of
-past-is-columns w h = sym (List·getD-eq-default (1 ∷ 2 ∷ 4 ∷ 8 ∷ []) columns h)
+past-is-columns w h = sym (List·getD-eq-default (1 ∷ 2 ∷ 4 ∷ 8 ∷ []) bench-columns h)
 
 -- 0 to 3 mean at most 8
 pub length-is-short : (w n : ℕ) → n ≡ length-of w → w % 8 ≤ 3 → n ≤ 8

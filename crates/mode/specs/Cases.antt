@@ -3,6 +3,8 @@ use Prim.Native.Nat.{ℕ, zero, suc, _+_}
 use mathlib.Core.Path.{_≡_, refl}
 use mathlib.Core.Bool.{Bool, cond}
 use mathlib.Core.List.{List, [], _∷_}
+use Rattle.units.specs.declared.Module.{Module}
+use Rattle.units.specs.declared.Module.the-variants.{Bench, Handheld}
 use Rattle.mode.specs.Word.{length-of, legal}
 use Rattle.mode.specs.Order.{beat-column}
 
@@ -27,10 +29,14 @@ unfolding length-of beat-column
 full-page-from-2046 = refl
 
 -- the legal ones of the words below n
-abbrev count-legal : ℕ → ℕ
-count-legal zero = 0
-count-legal (suc n) = cond (legal n) 1 0 + count-legal n
+abbrev count-legal : Module → ℕ → ℕ
+count-legal m zero = 0
+count-legal m (suc n) = cond (legal m n) 1 0 + count-legal m n
 
 -- lengths 1, 2, 4, 8 in two orders and full page in one, CL 2 or 3, writes single or not
-pub legal-words : count-legal 8192 ≡ 36
+pub legal-words : count-legal Bench 8192 ≡ 36
 legal-words = refl
+
+-- without full page
+pub handheld-words : count-legal Handheld 8192 ≡ 32
+handheld-words = refl

@@ -3,7 +3,7 @@ use Prim.Native.Nat.{ℕ, _+_, _-_, _%_}
 use mathlib.Core.Bool.{Bool, cond}
 use mathlib.Core.List.{List, [], _∷_}
 use lib.ListN.{getD}
-use Rattle.units.specs.Module.{columns}
+use Rattle.units.specs.Module.{bench-columns}
 use Rattle.mode.specs.Word.{full-page, length-of, interleaved}
 
 -- Type = Sequential: for each starting column in the block, the order of accesses
@@ -63,4 +63,4 @@ in-block w s i = getD (getD (orders w) s []) i 0
 -- the column of beat i of a burst from column c; "full page wraps at 2,048 columns and goes on without end"
 unfoldable pub beat-column : ℕ → ℕ → ℕ → ℕ
 beat-column w c i =
-    cond (full-page w) ((c + i) % columns) (c - c % length-of w + in-block w (c % length-of w) i)
+    cond (full-page w) ((c + i) % bench-columns) (c - c % length-of w + in-block w (c % length-of w) i)

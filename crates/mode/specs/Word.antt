@@ -4,7 +4,8 @@ use mathlib.Core.Bool.{Bool, not, _&&_, _||_, cond}
 use mathlib.Core.List.{List, [], _∷_}
 use lib.Dec.{ltb, eqb}
 use lib.ListN.{getD}
-use Rattle.units.specs.Module.{columns}
+use Rattle.units.specs.declared.Module.{Module}
+use Rattle.units.specs.Module.{bench-columns, has-full-page}
 use Rattle.mode.specs.declared.Mode.{Mode}
 use Rattle.mode.specs.declared.Decoded.{Decoded}
 use Rattle.mode.specs.declared.Decoded.the-variants.{Known, Reserved}
@@ -15,7 +16,7 @@ full-page w = eqb (w % 8) 7
 
 -- M2 to M0: "0, 1, 2, 3 mean 1, 2, 4, 8"; in full page, the row's columns
 unfoldable pub length-of : ℕ → ℕ
-length-of w = getD (1 ∷ 2 ∷ 4 ∷ 8 ∷ []) (w % 8) columns
+length-of w = getD (1 ∷ 2 ∷ 4 ∷ 8 ∷ []) (w % 8) bench-columns
 
 -- M3
 abbrev pub interleaved : ℕ → Bool
@@ -29,10 +30,10 @@ latency w = w / 16 % 8
 abbrev pub single : ℕ → Bool
 single w = eqb (w / 512 % 2) 1
 
--- "full page, M3 = 0 only. CL 2 or 3. M7, M8, M10 to M12 zero. All else is 17"
-abbrev pub legal : ℕ → Bool
-legal w =
-    (ltb (w % 8) 4 || (full-page w && not (interleaved w)))
+-- "full page, M3 = 0 only", and only of a module that has it. "CL 2 or 3. M7, M8, M10 to M12 zero. All else is 17"
+abbrev pub legal : Module → ℕ → Bool
+legal m w =
+    (ltb (w % 8) 4 || (has-full-page m && full-page w && not (interleaved w)))
     && (eqb (latency w) 2 || eqb (latency w) 3)
     && eqb (w / 128 % 4) 0
     && eqb (w / 1024) 0
@@ -48,8 +49,8 @@ mode-of w =
     }
 
 -- a mode word as what decoding it answers
-unfoldable pub decoded : ℕ → Decoded
-decoded w = cond (legal w) (Known (mode-of w)) Reserved
+unfoldable pub decoded : Module → ℕ → Decoded
+decoded m w = cond (legal m w) (Known (mode-of w)) Reserved
 
 -- how long a WRITE's burst is
 abbrev pub write-length : ℕ → ℕ

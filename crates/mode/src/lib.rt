@@ -4,6 +4,7 @@ ghost use mathlib.Core.Path.{_≡_};
 ghost use Rattle.mode.specs.Word.{full-page, length-of, interleaved, latency, single, legal, decoded, write-length, write-endless};
 ghost use Rattle.mode.specs.Order.{in-block, beat-column};
 use units::COLUMNS;
+use units::Module;
 
 // What a mode word that is not reserved says.
 pub struct Mode {
@@ -61,24 +62,25 @@ pub fn single(w: u16) -> bool
     w / 512 % 2 == 1
 }
 
-// A word that is not reserved: a length of 003's figure 5, full page with M3 = 0 only; CL 2 or 3 (table 7); M7, M8 and
-// M10 to M12 zero.
-pub fn legal(w: u16) -> bool
-    ensures { λ r. ⌜ r ≡ legal w ⌝ }
+// A word that is not reserved: a length of 003's figure 5, full page where the module has it and with M3 = 0 only; CL 2 or 3
+// (table 7); M7, M8 and M10 to M12 zero.
+pub fn legal(m: Module, w: u16) -> bool
+    ensures { λ r. ⌜ r ≡ legal m w ⌝ }
 {
+    let page = m.has_full_page();
     let cl = latency(w);
     let m3 = interleaved(w);
-    ((w % 8 < 4) | (full_page(w) & !m3))
+    ((w % 8 < 4) | (page & full_page(w) & !m3))
         & ((cl == 2) | (cl == 3))
         & (w / 128 % 4 == 0)
         & (w / 1_024 == 0)
 }
 
 // What a LOAD MODE's word says: a mode, or reserved, which is number 17.
-pub fn decode(w: u16) -> Decoded
-    ensures { λ r. ⌜ r ≡ decoded w ⌝ }
+pub fn decode(m: Module, w: u16) -> Decoded
+    ensures { λ r. ⌜ r ≡ decoded m w ⌝ }
 {
-    if legal(w) {
+    if legal(m, w) {
         Decoded::Known(Mode {
             length: length_of(w),
             fullpage: full_page(w),

@@ -4,15 +4,16 @@ use mathlib.Core.Path.{_≡_}
 use mathlib.Core.Bool.{true, false, _&&_}
 use mathlib.Core.List.{List}
 use lib.Dec.{eqb}
+use Rattle.units.specs.declared.Module.{Module}
 use Rattle.bursts.specs.declared.Cells.{Cells}
 use Rattle.bursts.specs.declared.Beat.the-variants.{Stores}
 use Rattle.page.specs.Store.{put-cells, stored}
 
-module _ (bank row dq : ℕ) (c : Cells) (page : List ℕ) where
-  pub watched : (eqb (c .bank) bank && eqb (c .row) row) ≡ true → put-cells c dq page ≡ stored bank row dq (Stores c) page
+module _ (m : Module) (bank row dq : ℕ) (c : Cells) (page : List ℕ) where
+  pub watched : (eqb (c .bank) bank && eqb (c .row) row) ≡ true → put-cells m c dq page ≡ stored m bank row dq (Stores c) page
   unfolding stored
   watched h = rw h
 
-  pub not-watched : (eqb (c .bank) bank && eqb (c .row) row) ≡ false → page ≡ stored bank row dq (Stores c) page
+  pub not-watched : (eqb (c .bank) bank && eqb (c .row) row) ≡ false → page ≡ stored m bank row dq (Stores c) page
   unfolding stored
   not-watched h = rw h

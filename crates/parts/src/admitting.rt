@@ -14,10 +14,9 @@ use rules::StartUp;
 use rules::State;
 use rules::Status;
 use units::BANKS;
-use units::COLUMNS;
 use units::Clock;
 use units::Event;
-use units::ROWS;
+use units::Module;
 
 // "A time above 2^58 ps."
 const CLOSING_MAX: u64 = 288_230_376_151_711_744;
@@ -37,88 +36,90 @@ fn event_fits(e: Event) -> bool
     }
 }
 
-fn status_fits(x: Status) -> bool
-    ensures { λ r. ⌜ r ≡ status-fits x ⌝ }
+fn status_fits(m: Module, x: Status) -> bool
+    ensures { λ r. ⌜ r ≡ status-fits m x ⌝ }
 {
     match x {
         Status::NotStarted => true,
         Status::Open { row, active } => {
             let fits = clock_fits(active);
-            (row < ROWS) & fits
+            (row < m.rows()) & fits
         }
         Status::Closed { closing } => closing.0 <= CLOSING_MAX,
     }
 }
 
-fn bank_fits(b: Bank) -> bool
-    ensures { λ r. ⌜ r ≡ bank-fits b ⌝ }
+fn bank_fits(m: Module, b: Bank) -> bool
+    ensures { λ r. ⌜ r ≡ bank-fits m b ⌝ }
 {
     let status = b.status;
     let active = b.active;
     let stored = b.stored;
-    let p = status_fits(status);
+    let p = status_fits(m, status);
     let q = event_fits(active);
     let s = event_fits(stored);
     p & q & s
 }
 
-fn banks_fit(all: [Bank; 4]) -> bool
-    ensures { λ r. ⌜ r ≡ every bank-fits all ⌝ }
+fn banks_fit(m: Module, all: [Bank; 4]) -> bool
+    ensures { λ r. ⌜ r ≡ every (bank-fits m) all ⌝ }
 {
-    let a = bank_fits(all[0]);
-    let b = bank_fits(all[1]);
-    let c = bank_fits(all[2]);
-    let d = bank_fits(all[3]);
+    let a = bank_fits(m, all[0]);
+    let b = bank_fits(m, all[1]);
+    let c = bank_fits(m, all[2]);
+    let d = bank_fits(m, all[3]);
     a & (b & (c & d))
 }
 
 // "A reserved mode word, or a bank, row or column off the module."
-fn burst_fits(b: Burst) -> bool
-    ensures { λ r. ⌜ r ≡ burst-fits b ⌝ }
+fn burst_fits(m: Module, b: Burst) -> bool
+    ensures { λ r. ⌜ r ≡ burst-fits m b ⌝ }
 {
     let start = b.start;
     let cut = b.cut;
     let p = clock_fits(start);
     let q = event_fits(cut);
-    let word = mode::legal(b.word);
-    (b.bank < BANKS) & (b.row < ROWS) & (b.column < COLUMNS) & p & q & word
+    let word = mode::legal(m, b.word);
+    let rows = m.rows();
+    let columns = m.columns();
+    (b.bank < BANKS) & (b.row < rows) & (b.column < columns) & p & q & word
 }
 
-fn bursts_fit(reads: [Burst; 4]) -> bool
-    ensures { λ r. ⌜ r ≡ bursts-fit reads ⌝ }
+fn bursts_fit(m: Module, reads: [Burst; 4]) -> bool
+    ensures { λ r. ⌜ r ≡ bursts-fit m reads ⌝ }
 {
-    let a = burst_fits(reads[0]);
-    let b = burst_fits(reads[1]);
-    let c = burst_fits(reads[2]);
-    let d = burst_fits(reads[3]);
+    let a = burst_fits(m, reads[0]);
+    let b = burst_fits(m, reads[1]);
+    let c = burst_fits(m, reads[2]);
+    let d = burst_fits(m, reads[3]);
     a & (b & (c & d))
 }
 
-fn bus_fits(u: Bus) -> bool
-    ensures { λ r. ⌜ r ≡ bus-fits u ⌝ }
+fn bus_fits(m: Module, u: Bus) -> bool
+    ensures { λ r. ⌜ r ≡ bus-fits m u ⌝ }
 {
     let write = u.write;
     let reads = u.reads;
-    let p = burst_fits(write);
-    let q = bursts_fit(reads);
+    let p = burst_fits(m, write);
+    let q = bursts_fit(m, reads);
     p & q
 }
 
-fn register_fits(x: Register) -> bool
-    ensures { λ r. ⌜ r ≡ register-fits x ⌝ }
+fn register_fits(m: Module, x: Register) -> bool
+    ensures { λ r. ⌜ r ≡ register-fits m x ⌝ }
 {
     match x {
         Register::Unloaded => true,
         Register::Loaded { word, clock } => {
-            let legal = mode::legal(word);
+            let legal = mode::legal(m, word);
             let fits = clock_fits(clock);
             legal & fits
         }
     }
 }
 
-fn startup_fits(u: StartUp) -> bool
-    ensures { λ r. ⌜ r ≡ startup-fits u ⌝ }
+fn startup_fits(m: Module, u: StartUp) -> bool
+    ensures { λ r. ⌜ r ≡ startup-fits m u ⌝ }
 {
     let all = u.allclosed;
     let refreshes = u.refreshes;
@@ -126,20 +127,21 @@ fn startup_fits(u: StartUp) -> bool
     let last = steps::last_refresh(refreshes);
     let p = event_fits(all);
     let q = event_fits(last);
-    let s = register_fits(register);
+    let s = register_fits(m, register);
     p & q & s
 }
 
-fn core_fits(c: Core) -> bool
-    ensures { λ r. ⌜ r ≡ core-fits c ⌝ }
+fn core_fits(m: Module, c: Core) -> bool
+    ensures { λ r. ⌜ r ≡ core-fits m c ⌝ }
 {
     let last = c.last;
     let startup = c.startup;
     let bus = c.bus;
     let p = event_fits(last);
-    let q = startup_fits(startup);
-    let s = bus_fits(bus);
-    (c.bank < BANKS) & (c.row < ROWS) & (c.number <= NUMBER_MAX) & p & q & s
+    let q = startup_fits(m, startup);
+    let s = bus_fits(m, bus);
+    let rows = m.rows();
+    (c.bank < BANKS) & (c.row < rows) & (c.number <= NUMBER_MAX) & p & q & s
 }
 
 pub fn fits(s: State) -> bool
@@ -147,7 +149,8 @@ pub fn fits(s: State) -> bool
 {
     let core = s.core;
     let all = s.banks;
-    let p = core_fits(core);
-    let q = banks_fit(all);
+    let m = Module::of_grade(core.grade);
+    let p = core_fits(m, core);
+    let q = banks_fit(m, all);
     p & q
 }

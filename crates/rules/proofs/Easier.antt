@@ -12,6 +12,8 @@ use Rattle.units.specs.declared.Event.{Event}
 use Rattle.units.specs.declared.Event.the-variants.{Never, On}
 use Rattle.units.specs.Time.{at}
 use Rattle.speed.specs.declared.SpeedTable.{SpeedTable}
+use Rattle.units.specs.declared.Module.{Module}
+use Rattle.units.specs.Module.{module-of}
 use Rattle.layout.specs.declared.Record.{Record}
 use Rattle.layout.specs.declared.Command.{Command}
 use Rattle.layout.specs.declared.Command.the-variants.{Active, Write, Precharge, LoadMode}
@@ -146,9 +148,9 @@ module _ {t u : SpeedTable} (e : NowhereHarder t u) where
       ▸ ⊑-minimum tMRD n (λ x. at period (x .tmrd)) (mul-le-mul-right (period .0) (e .tmrd)) l
       ▸ end
 
-  softer-mode : (k : Command) (period : Ps) (r : Record) → Softer (mode-rules k t period r) (mode-rules k u period r)
+  softer-mode : (k : Command) (m : Module) (period : Ps) (r : Record) → Softer (mode-rules k t m period r) (mode-rules k u m period r)
   unfolding mode-rules
-  softer-mode k period r = ⊑-self ▸ ⊑-if (is k LoadMode) (⊑-leb (tCK-le (r .addr)) (le-refl (period .0))) ▸ end
+  softer-mode k m period r = ⊑-self ▸ ⊑-if (is k LoadMode) (⊑-leb (tCK-le (r .addr)) (le-refl (period .0))) ▸ end
 
   softer-bus : (k : Command) (c : Core) (r : Record) (n : Clock) (b d : Bank) → Near b d
       → Softer (bus-rules k t c (b .status) r n) (bus-rules k u c (d .status) r n)
@@ -168,7 +170,7 @@ module _ {t u : SpeedTable} (e : NowhereHarder t u) where
       softer-every (c .period) (c .startup .refreshes) r n moment h
       ⧺ softer-asked (executable k)
       (softer-place k (c .startup) r moment h
-      ⧺ (softer-minimum (c .period) moment (lower-minima k (c .period) (c .startup) r h) ⧺ (softer-mode k (c .period) r ⧺ softer-bus k c r n _ _ (near-at h (r .ba)))))
+      ⧺ (softer-minimum (c .period) moment (lower-minima k (c .period) (c .startup) r h) ⧺ (softer-mode k (module-of (c .grade)) (c .period) r ⧺ softer-bus k c r n _ _ (near-at h (r .ba)))))
 
   pub easier-taken : (c : Core) (r : Record) {bs ds : List Bank} → NearBanks bs ds
       → ask (setup t) (state-of c bs) r ≡ Taken → ask (setup u) (state-of c ds) r ≡ Taken

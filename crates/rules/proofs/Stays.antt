@@ -7,13 +7,16 @@ use mathlib.Core.Bool.{Bool, true, false, _&&_, cond}
 use mathlib.Core.List.{List, [], _∷_}
 use lib.Dec.{eqb}
 use lib.ListN.{getD, take}
-use borrow.Author.Tests.{leb-true}
+use borrow.Author.Tests.{leb-true, eqb-true}
 use Rattle.units.specs.declared.Clock.{Clock}
 use Rattle.units.specs.declared.Ps.{Ps}
 use Rattle.units.specs.declared.Event.{Event}
 use Rattle.units.specs.declared.Event.the-variants.{Never, On}
-use Rattle.units.specs.Module.{rows, columns}
+use Rattle.units.specs.declared.Module.{Module}
+use Rattle.units.specs.Module.{bench-columns, rows, module-of}
 use Rattle.units.proofs.Both.{both}
+use Rattle.units.proofs.Sizes.{some-row, some-column}
+use Rattle.speed.specs.declared.SpeedTable.{SpeedTable}
 use Rattle.layout.specs.declared.Record.{Record}
 use Rattle.layout.specs.declared.Command.{Command}
 use Rattle.layout.specs.declared.Command.the-variants.{
@@ -28,9 +31,10 @@ use Rattle.layout.specs.declared.Command.the-variants.{
   LoadMode,
 }
 use Rattle.layout.specs.Commands.{command, is, executable, covers, precharge-all}
-use Rattle.layout.specs.Widths.{Widths}
+use Rattle.layout.specs.Widths.{Widths, OnModule}
 use Rattle.mode.specs.Word.{legal, single, length-of, write-length}
 use Rattle.bursts.specs.declared.Burst.{Burst}
+use Rattle.bursts.specs.declared.Bus.{Bus}
 use Rattle.bursts.specs.Burst.{no-burst, burst-at, sooner, cut-if, ends}
 use Rattle.bursts.specs.Bus.{no-reads, cut-each, reads-from, bus-after, stores-in}
 use Rattle.rules.specs.declared.Refreshes.{Refreshes}
@@ -45,7 +49,7 @@ use Rattle.rules.specs.declared.State.{State}
 use Rattle.rules.specs.declared.Setup.{Setup}
 use Rattle.rules.specs.declared.Verdict.the-variants.{Taken}
 use Rattle.rules.specs.Numbers.{asked, _⇒_}
-use Rattle.rules.specs.Parts.{clock-of, now, word-in, word, start, no-bank}
+use Rattle.rules.specs.Parts.{clock-of, now, word-in, word, start, no-bank, state-module}
 use Rattle.rules.specs.StartUp.{begun, last-refresh}
 use Rattle.rules.specs.Banks.{bank-at, row-of}
 use Rattle.rules.specs.Closing.{burst-end}
@@ -64,20 +68,24 @@ use Rattle.rules.specs.Rules.{
 use Rattle.rules.specs.After.{one-more, startup-after, core-from, core-after, precharged, auto-closed, bank-after, marked, each-bank, commanded, mark-banks, banks-after, own-row, own-beat, next}
 use Rattle.rules.specs.Fits.{number-max}
 use Rattle.rules.specs.Admitted.{
+  Each,
+  EachBurst,
   FitEvent,
   FitStatus,
   FitBank,
   FitBurst,
-  FitBursts,
-  FitBanks,
-  FitBus,
   FitRegister,
   FitStartUp,
   FitCore,
+  StatusOn,
+  BankOn,
+  BurstOn,
+  RegisterOn,
+  CoreOn,
   Admitted,
 }
 use Rattle.rules.proofs.Kept.{rules-of, test, kept}
-use Rattle.rules.proofs.Admitted.{bank-fits-at}
+use Rattle.rules.proofs.Admitted.{bank-on-at}
 
 -- ── What a taken record keeps ──
 
@@ -85,12 +93,17 @@ pub clock-kept : (u : Setup) (s : State) (r : Record) → ask u s r ≡ Taken �
 unfolding ask rules every-rules
 clock-kept u s r p = leb-true _ _ (kept 23 0 (rules-of u s r) p)
 
-mode-kept : (u : Setup) (s : State) (r : Record) → ask u s r ≡ Taken → (is (command r) LoadMode ⇒ legal (r .addr) && eqb (r .ba) 0) ≡ true
+-- no zero bit is set: the record is on its module
+zero-kept : (u : Setup) (s : State) (r : Record) → ask u s r ≡ Taken → r .zeros ≡ 0
+unfolding ask rules every-rules
+zero-kept u s r p = eqb-true _ _ (kept 10 0 (rules-of u s r) p)
+
+mode-kept : (u : Setup) (s : State) (r : Record) → ask u s r ≡ Taken → (is (command r) LoadMode ⇒ legal (state-module s) (r .addr) && eqb (r .ba) 0) ≡ true
 unfolding ask rules every-rules command-rules place-rules minimum-rules mode-rules bus-rules
 mode-kept u s r p = go (command r) (kept 17 0 (rules-of u s r) p)
   where
     go : (k : Command) → test 17 0 (asked (executable k) (command-rules k (u .table) (s .core) (s .banks) r (clock-of (s .core) r) (now (s .core) r))) ≡ true
-        → (is k LoadMode ⇒ legal (r .addr) && eqb (r .ba) 0) ≡ true
+        → (is k LoadMode ⇒ legal (state-module s) (r .addr) && eqb (r .ba) 0) ≡ true
     go Inhibit h = refl
     go Nop h = refl
     go Active h = refl
@@ -103,22 +116,22 @@ mode-kept u s r p = go (command r) (kept 17 0 (rules-of u s r) p)
 
 -- ── Small facts ──
 
-event-cond : (x : Bool) (a b : Event) → FitEvent a → FitEvent b → FitEvent (cond x a b)
-event-cond true a b p q = p
-event-cond false a b p q = q
+cond-keeps : {A : Type 0} (P : A → Type 0) (x : Bool) (a b : A) → P a → P b → P (cond x a b)
+cond-keeps P true a b p q = p
+cond-keeps P false a b p q = q
 
 sooner-fits : (n : Clock) (e : Event) → n .0 ≤ clock-max → FitEvent (sooner n e)
 sooner-fits n Never h = h
 sooner-fits n (On x) h = omega arith
 
-row-fits : (x : Status) → FitStatus x → row-of x < rows
-row-fits NotStarted h = omega arith
-row-fits (Open row n) h = h .0
-row-fits (Closed t) h = omega arith
+row-on : (m : Module) (x : Status) → StatusOn m x → row-of x < rows m
+row-on m NotStarted h = some-row m
+row-on m (Open row n) h = h
+row-on m (Closed t) h = some-row m
 
-word-fits : (x : Register) → FitRegister x → legal (word-in x) ≡ true
-word-fits Unloaded h = refl
-word-fits (Loaded w n) h = h .0
+word-on : (m : Module) (x : Register) → RegisterOn m x → legal m (word-in x) ≡ true
+word-on m Unloaded h = refl
+word-on m (Loaded w n) h = h
 
 refreshes-fit : (x : Bool) (n : Clock) (f : Refreshes) → n .0 ≤ clock-max → FitEvent (last-refresh f)
     → FitEvent (last-refresh (cond x (one-more n f) f))
@@ -127,26 +140,30 @@ refreshes-fit true n (One y) h g = h
 refreshes-fit true n (Two y) h g = h
 refreshes-fit false n f h g = g
 
-register-fits-after : (x : Bool) (w : ℕ) (z : Bool) (n : Clock) (f : Register) → n .0 ≤ clock-max → (x ⇒ legal w && z) ≡ true → FitRegister f
-    → FitRegister (cond x (Loaded w n) f)
-register-fits-after true w z n f h g k = (both (legal w) z g .0, h)
-register-fits-after false w z n f h g k = k
+register-fits-after : (x : Bool) (w : ℕ) (n : Clock) (f : Register) → n .0 ≤ clock-max → FitRegister f → FitRegister (cond x (Loaded w n) f)
+register-fits-after true w n f h k = h
+register-fits-after false w n f h k = k
 
-pub length-le : (w : ℕ) → length-of w ≤ columns
+register-on-after : (m : Module) (x : Bool) (w : ℕ) (z : Bool) (n : Clock) (f : Register) → (x ⇒ legal m w && z) ≡ true → RegisterOn m f
+    → RegisterOn m (cond x (Loaded w n) f)
+register-on-after m true w z n f g k = both (legal m w) z g .0
+register-on-after m false w z n f g k = k
+
+pub length-le : (w : ℕ) → length-of w ≤ bench-columns
 unfolding length-of
 length-le w = go (w % 8)
   where
-    go : (k : ℕ) → getD (1 ∷ 2 ∷ 4 ∷ 8 ∷ []) k columns ≤ columns
+    go : (k : ℕ) → getD (1 ∷ 2 ∷ 4 ∷ 8 ∷ []) k bench-columns ≤ bench-columns
     go zero = omega arith
     go (suc zero) = omega arith
     go (suc (suc zero)) = omega arith
     go (suc (suc (suc zero))) = omega arith
-    go (suc (suc (suc (suc k)))) = le-refl columns
+    go (suc (suc (suc (suc k)))) = le-refl bench-columns
 
-pub write-length-le : (w : ℕ) → write-length w ≤ columns
+pub write-length-le : (w : ℕ) → write-length w ≤ bench-columns
 write-length-le w = go (single w)
   where
-    go : (x : Bool) → cond x 1 (length-of w) ≤ columns
+    go : (x : Bool) → cond x 1 (length-of w) ≤ bench-columns
     go true = omega arith
     go false = length-le w
 
@@ -154,110 +171,113 @@ cond-most : (x : Bool) {a b : Ps} {m : ℕ} → a .0 ≤ m → b .0 ≤ m → co
 cond-most true p q = p
 cond-most false p q = q
 
--- ── Bursts ──
+-- ── Bursts and banks ──
 
-cut-fits : (x : Bool) (n : Clock) (b : Burst) → n .0 ≤ clock-max → FitBurst b → FitBurst (cut-if x n b)
-cut-fits x n b h f =
-    record {
-      bank = f .bank;
-      row = f .row;
-      column = f .column;
-      start = f .start;
-      cut = event-cond x (sooner n (b .cut)) (b .cut) (sooner-fits n (b .cut) h) (f .cut);
-      word = f .word;
-    }
+cut-fits : (n : Clock) → n .0 ≤ clock-max → (x : Bool) (b : Burst) → FitBurst b → FitBurst (cut-if x n b)
+cut-fits n h x b f =
+    record { start = f .start; cut = cond-keeps FitEvent x (sooner n (b .cut)) (b .cut) (sooner-fits n (b .cut) h) (f .cut) }
 
-cut-each-fits : (k : Command) (addr ba : ℕ) (n : Clock) (bs : List Burst) → n .0 ≤ clock-max → FitBursts bs → FitBursts (cut-each k addr ba n bs)
-cut-each-fits k addr ba n [] h f = tt
-cut-each-fits k addr ba n (b ∷ bs) h f = (cut-fits (ends k addr ba (b .bank)) n b h (f .0), cut-each-fits k addr ba n bs h (f .1))
-
-take-fits : (k : ℕ) (bs : List Burst) → FitBursts bs → FitBursts (take k bs)
-take-fits zero bs f = tt
-take-fits (suc k) [] f = tt
-take-fits (suc k) (b ∷ bs) f = (f .0, take-fits k bs (f .1))
+cut-on : (m : Module) (n : Clock) (x : Bool) (b : Burst) → BurstOn m b → BurstOn m (cut-if x n b)
+cut-on m n x b f = record { bank = f .bank; row = f .row; column = f .column; word = f .word }
 
 no-burst-fits : FitBurst no-burst
-no-burst-fits = record { bank = omega arith; row = omega arith; column = omega arith; start = omega arith; cut = tt; word = refl }
+no-burst-fits = record { start = omega arith; cut = tt }
 
-no-reads-fit : FitBursts no-reads
-no-reads-fit = (no-burst-fits, (no-burst-fits, (no-burst-fits, (no-burst-fits, tt))))
+no-burst-on : (m : Module) → BurstOn m no-burst
+no-burst-on m = record { bank = omega arith; row = some-row m; column = some-column m; word = refl }
 
-reads-from-fits : (x y : Bool) (new : Burst) (bs : List Burst) → FitBurst new → FitBursts bs → FitBursts (cond x no-reads (cond y (new ∷ take 3 bs) bs))
-reads-from-fits true y new bs f g = no-reads-fit
-reads-from-fits false true new bs f g = (f, take-fits 3 bs g)
-reads-from-fits false false new bs f g = g
+no-reads-keep : (P : Burst → Type 0) → P no-burst → Each P no-reads
+no-reads-keep P none = (none, (none, (none, (none, tt))))
 
-write-fits : (x : Bool) (new old : Burst) → FitBurst new → FitBurst old → FitBurst (cond x new old)
-write-fits true new old f g = f
-write-fits false new old f g = g
+-- what holds of no burst and of a cut one holds of each burst that a record on clock n leaves
+module _ (P : Burst → Type 0) (n : Clock) (none : P no-burst) (cut : (x : Bool) (b : Burst) → P b → P (cut-if x n b)) where
+  take-keeps : (k : ℕ) (bs : List Burst) → Each P bs → Each P (take k bs)
+  take-keeps zero bs f = tt
+  take-keeps (suc k) [] f = tt
+  take-keeps (suc k) (b ∷ bs) f = (f .0, take-keeps k bs (f .1))
 
-bank-cond : (x : Bool) (b d : Bank) → FitBank b → FitBank d → FitBank (cond x b d)
-bank-cond true b d p q = p
-bank-cond false b d p q = q
+  cut-each-keeps : (k : Command) (addr ba : ℕ) (bs : List Burst) → Each P bs → Each P (cut-each k addr ba n bs)
+  cut-each-keeps k addr ba [] f = tt
+  cut-each-keeps k addr ba (b ∷ bs) f = (cut (ends k addr ba (b .bank)) b (f .0), cut-each-keeps k addr ba bs (f .1))
 
-banks-each : (f : ℕ → Bank → Bank) → ((i : ℕ) (b : Bank) → FitBank b → FitBank (f i b)) → (i : ℕ) (bs : List Bank) → FitBanks bs → FitBanks (each-bank f i bs)
-banks-each f h i [] q = tt
-banks-each f h i (b ∷ bs) q = (h i b (q .0), banks-each f h (suc i) bs (q .1))
+  bus-keeps : (k : Command) (r : Record) (word row : ℕ) (u : Bus) → P (burst-at word n (r .addr) (r .column) (r .ba) row) → EachBurst P u
+      → EachBurst P (bus-after k r n word row u)
+  unfolding bus-after reads-from
+  bus-keeps k r word row u new f =
+      let reads = cut-each-keeps k (r .addr) (r .ba) (u .reads) (f .reads) in
+      record {
+        write = cond-keeps P (is k Write) _ _ new (cut (ends k (r .addr) (r .ba) (u .write .bank)) (u .write) (f .write));
+        reads =
+            cond-keeps (Each P) (is k Write) _ _ (no-reads-keep P none)
+            (cond-keeps (Each P) (is k Read) _ _ (new, take-keeps 3 (cut-each k (r .addr) (r .ba) n (u .reads)) reads) reads);
+      }
 
--- what the call has shown before: number 3, number 6, the record's widths, and a record number that can still grow
+banks-each : (P : Bank → Type 0) (f : ℕ → Bank → Bank) → ((i : ℕ) (b : Bank) → P b → P (f i b)) → (i : ℕ) (bs : List Bank) → Each P bs
+    → Each P (each-bank f i bs)
+banks-each P f h i [] q = tt
+banks-each P f h i (b ∷ bs) q = (h i b (q .0), banks-each P f h (suc i) bs (q .1))
+
+-- what the call has shown before: number 3, number 6, the record's widths and its places, and a record number that can still grow
 pub record Entered (u : Setup) (c : Core) (r : Record) : Type 0 where
   pub period : c .period .0 ≤ 65_535
   pub trasmin : u .table .trasmin .0 ≤ 200_000_000
   pub addition : u .table .addition .0 ≤ 200_000_000
   pub widths : Widths r
+  pub place : OnModule (module-of (c .grade)) r
   pub number : c .number < number-max
 
 module _ (u : Setup) (s : State) (r : Record) (g : Entered u (s .core) r) (a : Admitted s) (p : ask u s r ≡ Taken) where
   n-fits : clock-of (s .core) r .0 ≤ clock-max
   n-fits = clock-kept u s r p
 
-  own-row-fits : own-row s r < rows
-  own-row-fits = row-fits (bank-at (s .banks) (r .ba) .status) (bank-fits-at (s .banks) (r .ba) (a .banks) .status)
+  abbrev n-at : Clock
+  n-at = clock-of (s .core) r
 
-  new-fits : FitBurst (burst-at (word (s .core)) (clock-of (s .core) r) (r .addr) (r .ba) (own-row s r))
-  new-fits =
+  abbrev m-at : Module
+  m-at = state-module s
+
+  new-fits : FitBurst (burst-at (word (s .core)) n-at (r .addr) (r .column) (r .ba) (own-row s r))
+  new-fits = record { start = n-fits; cut = tt }
+
+  new-on : BurstOn m-at (burst-at (word (s .core)) n-at (r .addr) (r .column) (r .ba) (own-row s r))
+  new-on =
       record {
         bank = g .widths .ba;
-        row = own-row-fits;
-        column = omega (arith, g .widths .addr);
-        start = n-fits;
-        cut = tt;
-        word = word-fits (s .core .startup .register) (a .core .startup .register);
-      }
-
-  bus-fits-after : (k : Command) → FitBus (bus-after k r (clock-of (s .core) r) (word (s .core)) (own-row s r) (s .core .bus))
-  unfolding bus-after reads-from
-  bus-fits-after k =
-      record {
-        write =
-            write-fits (is k Write) _ _ new-fits
-            (cut-fits (ends k (r .addr) (r .ba) (s .core .bus .write .bank)) (clock-of (s .core) r) (s .core .bus .write) n-fits (a .core .bus .write));
-        reads =
-            reads-from-fits (is k Write) (is k Read) _ (cut-each k (r .addr) (r .ba) (clock-of (s .core) r) (s .core .bus .reads)) new-fits
-            (cut-each-fits k (r .addr) (r .ba) (clock-of (s .core) r) (s .core .bus .reads) n-fits (a .core .bus .reads));
+        row = row-on m-at (bank-at (s .banks) (r .ba) .status) (bank-on-at m-at (s .banks) (r .ba) (a .places .banks));
+        column = g .place .column;
+        word = word-on m-at (s .core .startup .register) (a .places .core .register);
       }
 
   startup-fits-after : FitStartUp (startup-after (command r) r (clock-of (s .core) r) (s .core .startup))
   unfolding startup-after
   startup-fits-after =
       record {
-        allclosed = event-cond (precharge-all (command r) r) (On (clock-of (s .core) r)) (s .core .startup .allclosed) n-fits (a .core .startup .allclosed);
+        allclosed = cond-keeps FitEvent (precharge-all (command r) r) (On (clock-of (s .core) r)) (s .core .startup .allclosed) n-fits (a .core .startup .allclosed);
         refreshed = refreshes-fit (is (command r) Refresh) (clock-of (s .core) r) (s .core .startup .refreshes) n-fits (a .core .startup .refreshed);
         register =
-            register-fits-after (is (command r) LoadMode) (r .addr) (eqb (r .ba) 0) (clock-of (s .core) r) (s .core .startup .register) n-fits (mode-kept u s r p)
-            (a .core .startup .register);
+            register-fits-after (is (command r) LoadMode) (r .addr) (clock-of (s .core) r) (s .core .startup .register) n-fits (a .core .startup .register);
       }
 
   core-fits-after : FitCore (core-after (s .core) r (own-row s r))
   unfolding core-after core-from
   core-fits-after =
       record {
-        bank = a .core .bank;
-        row = a .core .row;
         number = omega (arith, g .number);
         last = n-fits;
         startup = startup-fits-after;
-        bus = bus-fits-after (command r);
+        bus = bus-keeps FitBurst n-at no-burst-fits (cut-fits n-at n-fits) (command r) r (word (s .core)) (own-row s r) (s .core .bus) new-fits (a .core .bus);
+      }
+
+  core-on-after : CoreOn m-at (core-after (s .core) r (own-row s r))
+  unfolding core-after core-from startup-after
+  core-on-after =
+      record {
+        bank = a .places .core .bank;
+        row = a .places .core .row;
+        register =
+            register-on-after m-at (is (command r) LoadMode) (r .addr) (eqb (r .ba) 0) n-at (s .core .startup .register) (mode-kept u s r p)
+            (a .places .core .register);
+        bus = bus-keeps (BurstOn m-at) n-at (no-burst-on m-at) (cut-on m-at n-at) (command r) r (word (s .core)) (own-row s r) (s .core .bus) new-on (a .places .core .bus);
       }
 
   -- a clock within 4,096 of the last possible lasts less than 2^57
@@ -277,7 +297,7 @@ module _ (u : Setup) (s : State) (r : Record) (g : Entered u (s .core) r) (a : A
   auto-fits : (k : Command) (x : Status) → FitStatus x
       → FitStatus (auto-closed (u .table) (s .core .period) (burst-end k (u .table) (s .core .period) (word (s .core)) (clock-of (s .core) r)) x)
   auto-fits k NotStarted h = tt
-  auto-fits k (Open row n) h = omega (arith, end-fits k, ps-fits (n .0) (omega (arith, h .1)), g .trasmin)
+  auto-fits k (Open row n) h = omega (arith, end-fits k, ps-fits (n .0) (omega arith), g .trasmin)
   auto-fits k (Closed x) h = h
 
   precharged-fits : (again : Bool) (x : Status) → FitStatus x → FitStatus (precharged again (now (s .core) r) x)
@@ -286,30 +306,54 @@ module _ (u : Setup) (s : State) (r : Record) (g : Entered u (s .core) r) (a : A
   precharged-fits true (Closed y) h = h
   precharged-fits false (Closed y) h = omega (arith, now-fits)
 
-  bank-fits-after : (k : Command) (i : ℕ) (b : Bank) → FitBank b
-      → FitBank (bank-after k (u .table) (s .core .period) (burst-end k (u .table) (s .core .period) (word (s .core)) (clock-of (s .core) r)) (begun (s .core .startup)) r (clock-of (s .core) r) (now (s .core) r) i b)
+  -- the bank with number i after this command
+  abbrev after : Command → ℕ → Bank → Bank
+  after k = bank-after k (u .table) (s .core .period) (burst-end k (u .table) (s .core .period) (word (s .core)) n-at) (begun (s .core .startup)) r n-at (now (s .core) r)
+
+  bank-fits-after : (k : Command) (i : ℕ) (b : Bank) → FitBank b → FitBank (after k i b)
   unfolding bank-after
   bank-fits-after k i b h =
-      bank-cond (is k Active && eqb i (r .ba)) _ _ (record { status = (g .widths .addr, n-fits); active = n-fits; stored = tt })
-      (bank-cond (asks-auto k r && eqb i (r .ba)) _ _ (record { status = auto-fits k (b .status) (h .status); active = h .active; stored = h .stored })
-      (bank-cond (is k Precharge && covers (r .addr) (r .ba) i) _ _
+      cond-keeps FitBank (is k Active && eqb i (r .ba)) _ _ (record { status = n-fits; active = n-fits; stored = tt })
+      (cond-keeps FitBank (asks-auto k r && eqb i (r .ba)) _ _ (record { status = auto-fits k (b .status) (h .status); active = h .active; stored = h .stored })
+      (cond-keeps FitBank (is k Precharge && covers (r .addr) (r .ba) i) _ _
       (record { status = precharged-fits (begun (s .core .startup)) (b .status) (h .status); active = h .active; stored = h .stored }) h))
 
-  marked-fits : (x : Bool) (b : Bank) → FitBank b → FitBank (marked x (clock-of (s .core) r) b)
-  marked-fits x b h =
-      record { status = h .status; active = h .active; stored = event-cond x (On (clock-of (s .core) r)) (b .stored) n-fits (h .stored) }
+  auto-on : (period end : Ps) (x : Status) → StatusOn m-at (auto-closed (u .table) period end x)
+  auto-on period end NotStarted = tt
+  auto-on period end (Open row n) = tt
+  auto-on period end (Closed x) = tt
+
+  precharged-on : (again : Bool) (moment : Ps) (x : Status) → StatusOn m-at (precharged again moment x)
+  precharged-on again moment NotStarted = tt
+  precharged-on again moment (Open row n) = tt
+  precharged-on again moment (Closed x) = tt
+
+  bank-on-after : (k : Command) (i : ℕ) (b : Bank) → BankOn m-at b → BankOn m-at (after k i b)
+  unfolding bank-after
+  bank-on-after k i b h =
+      cond-keeps (BankOn m-at) (is k Active && eqb i (r .ba)) _ _ (g .place .row (zero-kept u s r p))
+      (cond-keeps (BankOn m-at) (asks-auto k r && eqb i (r .ba)) _ _ (auto-on _ _ (b .status))
+      (cond-keeps (BankOn m-at) (is k Precharge && covers (r .addr) (r .ba) i) _ _ (precharged-on (begun (s .core .startup)) _ (b .status)) h))
+
+  marked-fits : (x : Bool) (b : Bank) → FitBank b → FitBank (marked x n-at b)
+  marked-fits x b h = record { status = h .status; active = h .active; stored = cond-keeps FitEvent x (On n-at) (b .stored) n-fits (h .stored) }
+
+  -- what a command and a mark keep holds of each bank that the record leaves
+  banks-keep : (P : Bank → Type 0) → ((i : ℕ) (b : Bank) → P b → P (after (command r) i b)) → ((x : Bool) (b : Bank) → P b → P (marked x n-at b))
+      → Each P (s .banks) → Each P (next u s r .banks)
+  unfolding next banks-after mark-banks commanded
+  banks-keep P moved mark h =
+      banks-each P (λ i b. marked (stores-in (own-beat s r) i) n-at b) (λ i b. mark (stores-in (own-beat s r) i) b) 0 (each-bank (after (command r)) 0 (s .banks))
+      (banks-each P (after (command r)) moved 0 (s .banks) h)
 
   -- THE STATE BESIDE A TAKEN RECORD IS ADMITTED
   pub stays : Admitted (next u s r)
-  unfolding next banks-after mark-banks commanded
+  unfolding next core-after core-from
   stays =
       record {
         core = core-fits-after;
-        banks =
-            banks-each (λ i b. marked (stores-in (own-beat s r) i) (clock-of (s .core) r) b) (λ i b h. marked-fits (stores-in (own-beat s r) i) b h) 0
-            (commanded (command r) (u .table) (s .core .period) (burst-end (command r) (u .table) (s .core .period) (word (s .core)) (clock-of (s .core) r)) (begun (s .core .startup)) r (clock-of (s .core) r) (now (s .core) r) (s .banks))
-            (banks-each (bank-after (command r) (u .table) (s .core .period) (burst-end (command r) (u .table) (s .core .period) (word (s .core)) (clock-of (s .core) r)) (begun (s .core .startup)) r (clock-of (s .core) r) (now (s .core) r)) (bank-fits-after (command r)) 0 (s .banks)
-            (a .banks));
+        banks = banks-keep FitBank (bank-fits-after (command r)) marked-fits (a .banks);
+        places = record { core = core-on-after; banks = banks-keep (BankOn m-at) (bank-on-after (command r)) (λ x b h. h) (a .places .banks) };
       }
 
 -- the next record stands on a later clock
@@ -318,19 +362,23 @@ unfolding next core-after core-from
 clocks-grow u s r q = omega arith
 
 -- THE START STATE IS ADMITTED, for each watched bank and row of the module
-pub start-admitted : (period : Ps) (bank row : ℕ) → bank < 4 → row < rows → Admitted (start period bank row)
-start-admitted period bank row hb hr =
+pub start-admitted : (period : Ps) (grade bank row : ℕ) → bank < 4 → row < rows (module-of grade) → Admitted (start period grade bank row)
+start-admitted period grade bank row hb hr =
+    let m = module-of grade in
     record {
       core =
           record {
-            bank = hb;
-            row = hr;
             number = omega arith;
             last = tt;
             startup = record { allclosed = tt; refreshed = tt; register = tt };
-            bus = record { write = no-burst-fits; reads = no-reads-fit };
+            bus = record { write = no-burst-fits; reads = no-reads-keep FitBurst no-burst-fits };
           };
       banks = (fresh, (fresh, (fresh, (fresh, tt))));
+      places =
+          record {
+            core = record { bank = hb; row = hr; register = tt; bus = record { write = no-burst-on m; reads = no-reads-keep (BurstOn m) (no-burst-on m) } };
+            banks = (tt, (tt, (tt, (tt, tt))));
+          };
     }
   where
     fresh : FitBank no-bank

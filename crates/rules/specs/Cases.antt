@@ -6,10 +6,11 @@ use lib.Dec.{eqb, T}
 use Rattle.units.specs.Time.{time}
 use Rattle.speed.specs.declared.SpeedTable.{SpeedTable}
 use Rattle.speed.specs.Table.{table, grade-13E, grade-133}
+use Rattle.units.specs.Module.{module-of}
 use Rattle.layout.specs.declared.Record.{Record}
 use Rattle.layout.specs.declared.Command.{Command}
 use Rattle.layout.specs.declared.Command.the-variants.{Nop, Active, Read, Write, Terminate, Precharge, Refresh, LoadMode}
-use Rattle.layout.specs.Commands.{code-of}
+use Rattle.layout.specs.Commands.{code-of, column-of}
 use Rattle.mode.specs.Word.{length-of}
 use Rattle.mode.specs.Order.{beat-column}
 use Rattle.bursts.specs.declared.Cells.{Cells}
@@ -40,7 +41,7 @@ use Rattle.rules.specs.Run.{Line, Run, run}
 
 abbrev pub rec : ℕ → Command → ℕ → ℕ → ℕ → Record
 rec skipped k ba addr masks =
-    record { skipped = skipped; cke = 1; code = code-of k; ba = ba; addr = addr; masks = masks; zeros = 0; dq = 0 }
+    record { skipped = skipped; cke = 1; code = code-of k; ba = ba; addr = addr; column = column-of addr; masks = masks; zeros = 0; dq = 0 }
 
 -- A10
 abbrev pub with-a10 : ℕ → ℕ
@@ -120,7 +121,7 @@ of-lines f [] = []
 of-lines f (l ∷ ls) = of-beat f (l .clock .0) (l .beat) (of-lines f ls)
 
 abbrev pub run-of : SpeedTable → ℕ → List Record → Run
-run-of t period rs = run (record { table = t }) (start (time period) 0 0) rs
+run-of t period rs = run (record { table = t }) (start (time period) 2 0 0) rs
 
 abbrev pub right : Case → Bool
 right (refuses t p rs number interval reported) = same-run (run-of t p rs) number interval reported
@@ -183,5 +184,5 @@ bench =
     ∷ []
 
 pub bench-right : T (all-right bench)
-unfolding length-of beat-column has-beat write-beat read-beat finished masks-on masks-after reads-from bus-after beat-on bursts-finished driven bus-clear allowed banks-found of-closing of-any of-active of-access of-precharged of-precharge of-idle events minima every-rules place-rules minimum-rules mode-rules bus-rules command-rules rules ask startup-after beat core-from core-after bank-after commanded mark-banks banks-after next run
+unfolding module-of length-of beat-column has-beat write-beat read-beat finished masks-on masks-after reads-from bus-after beat-on bursts-finished driven bus-clear allowed banks-found of-closing of-any of-active of-access of-precharged of-precharge of-idle events minima every-rules place-rules minimum-rules mode-rules bus-rules command-rules rules ask startup-after beat core-from core-after bank-after commanded mark-banks banks-after next run
 bench-right = tt

@@ -6,6 +6,7 @@ use lib.Dec.{leb, ltb}
 use Rattle.units.specs.declared.Clock.{Clock}
 use Rattle.units.specs.declared.Event.{Event}
 use Rattle.units.specs.declared.Event.the-variants.{Never, On}
+use Rattle.units.specs.declared.Module.{Module}
 use Rattle.units.specs.Module.{banks, rows, columns}
 use Rattle.mode.specs.Word.{legal}
 use Rattle.bursts.specs.declared.Burst.{Burst}
@@ -18,6 +19,7 @@ use Rattle.rules.specs.declared.Status.the-variants.{NotStarted, Open, C
 use Rattle.rules.specs.declared.Bank.{Bank}
 use Rattle.rules.specs.declared.Core.{Core}
 use Rattle.rules.specs.declared.State.{State}
+use Rattle.rules.specs.Parts.{state-module}
 use Rattle.rules.specs.StartUp.{last-refresh}
 use Rattle.rules.specs.Rules.{clock-max}
 use Rattle.rules.specs.Banks.{every}
@@ -38,47 +40,47 @@ abbrev pub event-fits : Event → Bool
 event-fits Never = true
 event-fits (On x) = clock-fits x
 
-abbrev pub status-fits : Status → Bool
-status-fits NotStarted = true
-status-fits (Open row n) = ltb row rows && clock-fits n
-status-fits (Closed t) = leb (t .0) closing-max
+abbrev pub status-fits : Module → Status → Bool
+status-fits m NotStarted = true
+status-fits m (Open row n) = ltb row (rows m) && clock-fits n
+status-fits m (Closed t) = leb (t .0) closing-max
 
-unfoldable pub bank-fits : Bank → Bool
-bank-fits b = status-fits (b .status) && event-fits (b .active) && event-fits (b .stored)
+unfoldable pub bank-fits : Module → Bank → Bool
+bank-fits m b = status-fits m (b .status) && event-fits (b .active) && event-fits (b .stored)
 
 -- "a reserved mode word, or a bank, row or column off the module"
-unfoldable pub burst-fits : Burst → Bool
-burst-fits b =
+unfoldable pub burst-fits : Module → Burst → Bool
+burst-fits m b =
     ltb (b .bank) banks
-    && ltb (b .row) rows
-    && ltb (b .column) columns
+    && ltb (b .row) (rows m)
+    && ltb (b .column) (columns m)
     && clock-fits (b .start)
     && event-fits (b .cut)
-    && legal (b .word)
+    && legal m (b .word)
 
-abbrev pub bursts-fit : List Burst → Bool
-bursts-fit [] = true
-bursts-fit (b ∷ bs) = burst-fits b && bursts-fit bs
+abbrev pub bursts-fit : Module → List Burst → Bool
+bursts-fit m [] = true
+bursts-fit m (b ∷ bs) = burst-fits m b && bursts-fit m bs
 
-abbrev pub bus-fits : Bus → Bool
-bus-fits u = burst-fits (u .write) && bursts-fit (u .reads)
+abbrev pub bus-fits : Module → Bus → Bool
+bus-fits m u = burst-fits m (u .write) && bursts-fit m (u .reads)
 
-abbrev pub register-fits : Register → Bool
-register-fits Unloaded = true
-register-fits (Loaded word n) = legal word && clock-fits n
+abbrev pub register-fits : Module → Register → Bool
+register-fits m Unloaded = true
+register-fits m (Loaded word n) = legal m word && clock-fits n
 
-abbrev pub startup-fits : StartUp → Bool
-startup-fits u = event-fits (u .allclosed) && event-fits (last-refresh (u .refreshes)) && register-fits (u .register)
+abbrev pub startup-fits : Module → StartUp → Bool
+startup-fits m u = event-fits (u .allclosed) && event-fits (last-refresh (u .refreshes)) && register-fits m (u .register)
 
-unfoldable pub core-fits : Core → Bool
-core-fits c =
+unfoldable pub core-fits : Module → Core → Bool
+core-fits m c =
     ltb (c .bank) banks
-    && ltb (c .row) rows
+    && ltb (c .row) (rows m)
     && leb (c .number) number-max
     && event-fits (c .last)
-    && startup-fits (c .startup)
-    && bus-fits (c .bus)
+    && startup-fits m (c .startup)
+    && bus-fits m (c .bus)
 
 -- 25 is given exactly where this is false
 unfoldable pub fits : State → Bool
-fits s = core-fits (s .core) && every bank-fits (s .banks)
+fits s = core-fits (state-module s) (s .core) && every (bank-fits (state-module s)) (s .banks)

@@ -4,6 +4,7 @@ use mathlib.Core.List.{List, [], _∷_}
 use lib.Dec.{T}
 use Rattle.speed.specs.declared.SpeedTable.{SpeedTable}
 use Rattle.speed.specs.Table.{table, grade-133}
+use Rattle.units.specs.Module.{module-of}
 use Rattle.layout.specs.declared.Record.{Record}
 use Rattle.layout.specs.declared.Command.the-variants.{Nop, Write, LoadMode}
 use Rattle.layout.specs.Commands.{code-of}
@@ -62,10 +63,10 @@ abbrev no-minima : SpeedTable
 no-minima = table 0 0 0 120_000_000 0 0 0 0 0 0 0 7_812_500 0
 
 abbrev zero-bit : Record
-zero-bit = record { skipped = 0; cke = 1; code = code-of Nop; ba = 0; addr = 0; masks = 255; zeros = 1; dq = 0 }
+zero-bit = record { skipped = 0; cke = 1; code = code-of Nop; ba = 0; addr = 0; column = 0; masks = 255; zeros = 1; dq = 0 }
 
 abbrev cke-low : Record
-cke-low = record { skipped = 0; cke = 0; code = code-of Nop; ba = 0; addr = 0; masks = 255; zeros = 0; dq = 0 }
+cke-low = record { skipped = 0; cke = 0; code = code-of Nop; ba = 0; addr = 0; column = 0; masks = 255; zeros = 0; dq = 0 }
 
 abbrev pub further : List Case
 further =
@@ -153,5 +154,5 @@ further =
     ∷ []
 
 pub further-right : T (all-right further)
-unfolding length-of beat-column has-beat write-beat read-beat finished masks-on masks-after reads-from bus-after beat-on bursts-finished driven bus-clear allowed banks-found of-closing of-any of-active of-access of-precharged of-precharge of-idle events minima every-rules place-rules minimum-rules mode-rules bus-rules command-rules rules ask startup-after beat core-from core-after bank-after commanded mark-banks banks-after next run
+unfolding module-of length-of beat-column has-beat write-beat read-beat finished masks-on masks-after reads-from bus-after beat-on bursts-finished driven bus-clear allowed banks-found of-closing of-any of-active of-access of-precharged of-precharge of-idle events minima every-rules place-rules minimum-rules mode-rules bus-rules command-rules rules ask startup-after beat core-from core-after bank-after commanded mark-banks banks-after next run
 further-right = tt

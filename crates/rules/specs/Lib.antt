@@ -16,3 +16,4 @@ pub mod Cases
 pub mod FurtherCases
 pub mod OrderCases
 pub mod StateCases
+pub mod ModuleCases

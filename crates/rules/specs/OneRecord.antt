@@ -1,6 +1,6 @@
 -- The one-record call, from bytes and a state (01, Verdicts). Definitions only.
 use Prim.Native.Nat.{ℕ}
-use mathlib.Core.Bool.{Bool, _&&_}
+use mathlib.Core.Bool.{Bool, _&&_, _||_}
 use mathlib.Core.List.{List, [], _∷_}
 use lib.Dec.{leb, eqb}
 use lib.ListN.{length}
@@ -11,30 +11,35 @@ use Rattle.layout.specs.declared.Record.{Record}
 use Rattle.layout.specs.Bytes.{record-of}
 use Rattle.bursts.specs.declared.Beat.{Beat}
 use Rattle.bursts.specs.declared.Beat.the-variants.{Quiet}
-use Rattle.page.specs.Store.{stored}
 use Rattle.rules.specs.declared.State.{State}
 use Rattle.rules.specs.declared.Setup.{Setup}
 use Rattle.rules.specs.declared.Verdict.the-variants.{Taken, Refused}
 use Rattle.rules.specs.declared.Answer.{Answer}
+use Rattle.rules.specs.Parts.{state-module}
 use Rattle.rules.specs.Numbers.{Rule, rule, first-broken}
 use Rattle.rules.specs.Rules.{ask}
-use Rattle.rules.specs.After.{own-beat, next}
+use Rattle.rules.specs.After.{own-beat, next, page-next}
 use Rattle.rules.specs.Fits.{fits}
 
 -- "period outside 1,000 to 65,535"
 abbrev pub period-fits : Ps → Bool
 period-fits p = leb 1_000 (p .0) && leb (p .0) 65_535
 
--- 3, 6, 7 and 25, of a state and a page of so many bytes
+-- "speed grade 8 (1 = -13E, 2 = -133)"
+abbrev pub grade-known : ℕ → Bool
+grade-known g = eqb g 1 || eqb g 2
+
+-- 3, 4, 6, 7 and 25, of a state and a page of so many bytes: "4 (also for the state's grade)" (02, K9)
 unfoldable pub state-rules : Setup → State → ℕ → List Rule
 state-rules u s lent =
     rule 3 0 (period-fits (s .core .period))
+    ∷ rule 4 0 (grade-known (s .core .grade))
     ∷ rule 6 0 (table-fits (u .table))
-    ∷ rule 7 0 (eqb lent page-bytes)
+    ∷ rule 7 0 (eqb lent (page-bytes (state-module s)))
     ∷ rule 25 0 (fits s)
     ∷ []
 
--- "A record not 16 bytes long gives 1, then 3, 6, 7, 25": what is tried before the record is looked at
+-- "A record not 16 bytes long gives 1, then 3, 6, 7, 25", with 4 at its place: what is tried before the record is looked at
 unfoldable pub entry-rules : Setup → State → List ℕ → List ℕ → List Rule
 entry-rules u s bytes page = rule 1 0 (eqb (length bytes) 16) ∷ state-rules u s (length page)
 
@@ -58,7 +63,7 @@ refused number interval reported s page = stepped (answer-of number interval rep
 abbrev pub taken : Setup → State → Record → List ℕ → Stepped
 taken u s r page =
     stepped (answer-of 0 0 (s .core .number) (own-beat s r)) (next u s r)
-    (stored (s .core .bank) (s .core .row) (r .dq) (own-beat s r) page)
+    (page-next s r page)
 
 -- ask, and take where nothing was found: "10 and all below it report the record's number"
 unfoldable pub judged : Setup → State → Record → List ℕ → Stepped
@@ -72,6 +77,6 @@ judged u s r page =
 unfoldable pub step : Setup → State → List ℕ → List ℕ → Stepped
 step u s bytes page =
     elim (first-broken (entry-rules u s bytes page)) [
-      | Taken ↦ judged u s (record-of bytes) page
+      | Taken ↦ judged u s (record-of (state-module s) bytes) page
       | Refused n i ↦ refused n i 0 s page
     ]

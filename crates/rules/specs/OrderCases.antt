@@ -4,6 +4,7 @@ use mathlib.Core.List.{List, [], _∷_}
 use lib.Dec.{T}
 use Rattle.speed.specs.declared.SpeedTable.{SpeedTable}
 use Rattle.speed.specs.Table.{table, grade-133}
+use Rattle.units.specs.Module.{module-of}
 use Rattle.layout.specs.declared.Record.{Record}
 use Rattle.layout.specs.declared.Command.the-variants.{Inhibit, Nop}
 use Rattle.layout.specs.Commands.{code-of}
@@ -35,7 +36,7 @@ abbrev other : ℕ → ℕ → ℕ → ℕ → SpeedTable
 other trasmax trc trp twr = table 10_000 7_500 44_000 trasmax trc 20_000 trp 15_000 66_000 twr 7_500 7_812_500 2
 
 abbrev both-wrong : Record
-both-wrong = record { skipped = 0; cke = 0; code = code-of Nop; ba = 0; addr = 0; masks = 255; zeros = 1; dq = 0 }
+both-wrong = record { skipped = 0; cke = 0; code = code-of Nop; ba = 0; addr = 0; column = 0; masks = 255; zeros = 1; dq = 0 }
 
 -- start-up, row 7 of bank 1 opened on clock 13,357 and of bank 2 on 13,359
 abbrev up-two : ℕ → List Record → List Record
@@ -92,5 +93,5 @@ orders =
     ∷ []
 
 pub orders-right : T (all-right orders)
-unfolding length-of beat-column has-beat write-beat read-beat finished masks-on masks-after reads-from bus-after beat-on bursts-finished driven bus-clear allowed banks-found of-closing of-any of-active of-access of-precharged of-precharge of-idle events minima every-rules place-rules minimum-rules mode-rules bus-rules command-rules rules ask startup-after beat core-from core-after bank-after commanded mark-banks banks-after next run
+unfolding module-of length-of beat-column has-beat write-beat read-beat finished masks-on masks-after reads-from bus-after beat-on bursts-finished driven bus-clear allowed banks-found of-closing of-any of-active of-access of-precharged of-precharge of-idle events minima every-rules place-rules minimum-rules mode-rules bus-rules command-rules rules ask startup-after beat core-from core-after bank-after commanded mark-banks banks-after next run
 orders-right = tt

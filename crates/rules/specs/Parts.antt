@@ -5,6 +5,8 @@ use Rattle.units.specs.declared.Clock.{Clock}
 use Rattle.units.specs.declared.Ps.{Ps}
 use Rattle.units.specs.declared.Event.{Event}
 use Rattle.units.specs.declared.Event.the-variants.{Never, On}
+use Rattle.units.specs.declared.Module.{Module}
+use Rattle.units.specs.Module.{module-of}
 use Rattle.units.specs.Time.{clock, at}
 use Rattle.layout.specs.declared.Record.{Record}
 use Rattle.bursts.specs.Bus.{quiet-bus}
@@ -32,6 +34,10 @@ ps c n = at (c .period) n
 abbrev pub now : Core → Record → Ps
 now c r = ps c (clock-of c r)
 
+-- "The grade in header or state fixes the geometry" (02, K9)
+abbrev pub state-module : State → Module
+state-module s = module-of (s .core .grade)
+
 -- the mode word in the register; before the first LOAD MODE no record that reads it is taken
 abbrev pub word-in : Register → ℕ
 word-in Unloaded = 0x30
@@ -44,11 +50,12 @@ word c = word-in (c .startup .register)
 abbrev pub no-bank : Bank
 no-bank = record { status = NotStarted; active = Never; stored = Never }
 
--- before the first record: period, watched bank and row
-abbrev pub start-core : Ps → ℕ → ℕ → Core
-start-core period bank row =
+-- before the first record: period, grade, watched bank and row
+abbrev pub start-core : Ps → ℕ → ℕ → ℕ → Core
+start-core period grade bank row =
     record {
       period = period;
+      grade = grade;
       bank = bank;
       row = row;
       number = 0;
@@ -57,6 +64,6 @@ start-core period bank row =
       bus = quiet-bus;
     }
 
-abbrev pub start : Ps → ℕ → ℕ → State
-start period bank row =
-    record { core = start-core period bank row; banks = no-bank ∷ no-bank ∷ no-bank ∷ no-bank ∷ [] }
+abbrev pub start : Ps → ℕ → ℕ → ℕ → State
+start period grade bank row =
+    record { core = start-core period grade bank row; banks = no-bank ∷ no-bank ∷ no-bank ∷ no-bank ∷ [] }

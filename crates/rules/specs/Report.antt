@@ -8,15 +8,15 @@ use Rattle.layout.specs.Bytes.{records-of}
 use Rattle.bursts.specs.declared.Cells.{Cells}
 use Rattle.bursts.specs.declared.Beat.{Beat}
 use Rattle.bursts.specs.declared.Beat.the-variants.{Quiet, Stores, Drives}
-use Rattle.page.specs.Store.{stored}
 use Rattle.rules.specs.declared.State.{State}
 use Rattle.rules.specs.declared.Setup.{Setup}
 use Rattle.rules.specs.declared.Verdict.{Verdict}
 use Rattle.rules.specs.declared.Verdict.the-variants.{Taken, Refused}
 use Rattle.rules.specs.declared.Ran.{Ran}
+use Rattle.rules.specs.Parts.{state-module}
 use Rattle.rules.specs.Numbers.{Rule, rule, first-broken}
 use Rattle.rules.specs.Rules.{ask}
-use Rattle.rules.specs.After.{own-beat, next}
+use Rattle.rules.specs.After.{next, page-next}
 use Rattle.rules.specs.Fits.{number-max}
 use Rattle.rules.specs.Run.{Line, line}
 use Rattle.rules.specs.OneRecord.{state-rules}
@@ -57,7 +57,7 @@ fold u s [] page beats = left (ran Taken (s .core .number)) page beats
 fold u s (r ∷ rs) page beats =
     elim (ask u s r) [
       | Taken ↦
-          fold u (next u s r) rs (stored (s .core .bank) (s .core .row) (r .dq) (own-beat s r) page)
+          fold u (next u s r) rs (page-next s r page)
           (put-line (s .core .number) (line s r) beats)
       | Refused n i ↦ left (ran (Refused n i) (s .core .number)) page beats
     ]
@@ -72,6 +72,6 @@ records-rules u s bytes lent =
 unfoldable pub records-call : Setup → State → List ℕ → List ℕ → List ℕ → Left
 records-call u s bytes page beats =
     elim (first-broken (records-rules u s (length bytes) (length page))) [
-      | Taken ↦ fold u s (records-of (length bytes / 16) bytes) page beats
+      | Taken ↦ fold u s (records-of (state-module s) (length bytes / 16) bytes) page beats
       | Refused n i ↦ left (ran (Refused n i) 0) page beats
     ]

@@ -8,6 +8,8 @@ use Rattle.units.specs.declared.Ps.{Ps}
 use Rattle.units.specs.declared.Event.{Event}
 use Rattle.units.specs.declared.Event.the-variants.{Never, On}
 use Rattle.units.specs.Time.{at, by, plus}
+use Rattle.units.specs.declared.Module.{Module}
+use Rattle.units.specs.Module.{module-of}
 use Rattle.speed.specs.declared.SpeedTable.{SpeedTable}
 use Rattle.layout.specs.declared.Record.{Record}
 use Rattle.layout.specs.declared.Command.{Command}
@@ -75,9 +77,9 @@ minimum-rules t period moment events =
     ∷ []
 
 -- 17 and 18
-unfoldable pub mode-rules : Command → SpeedTable → Ps → Record → List Rule
-mode-rules k t period r =
-    rule 17 0 (is k LoadMode ⇒ legal (r .addr) && eqb (r .ba) 0)
+unfoldable pub mode-rules : Command → SpeedTable → Module → Ps → Record → List Rule
+mode-rules k t m period r =
+    rule 17 0 (is k LoadMode ⇒ legal m (r .addr) && eqb (r .ba) 0)
     ∷ rule 18 0 (is k LoadMode ⇒ by (tCK t (r .addr)) period)
     ∷ []
 
@@ -95,7 +97,7 @@ unfoldable pub command-rules : Command → SpeedTable → Core → List Bank →
 command-rules k t c bs r n moment =
     place-rules k (c .startup) bs r moment
     ++ (minimum-rules t (c .period) moment (minima k (c .period) (c .startup) r bs)
-    ++ (mode-rules k t (c .period) r ++ bus-rules k t c (bank-at bs (r .ba) .status) r n))
+    ++ (mode-rules k t (module-of (c .grade)) (c .period) r ++ bus-rules k t c (bank-at bs (r .ba) .status) r n))
 
 -- "12 and 13 are tried on every record, NOP and COMMAND INHIBIT included, 14 to 22 only on executable commands"
 unfoldable pub rules : SpeedTable → Core → List Bank → Record → Clock → Ps → List Rule

@@ -2,6 +2,7 @@
 use Prim.Native.Nat.{ℕ}
 use mathlib.Core.List.{List, [], _∷_}
 use Rattle.units.specs.declared.Clock.{Clock}
+use Rattle.units.specs.declared.Module.{Module}
 use Rattle.layout.specs.declared.Record.{Record}
 use Rattle.bursts.specs.declared.Beat.{Beat}
 use Rattle.page.specs.Store.{stored}
@@ -40,7 +41,7 @@ run u s (r ∷ rs) =
     ]
 
 -- the page of bank `bank`, row `row`, after these lines: each record's data beside its beat
-unfoldable pub page-after : ℕ → ℕ → List Record → List Line → List ℕ → List ℕ
-page-after bank row [] ls page = page
-page-after bank row (r ∷ rs) [] page = page
-page-after bank row (r ∷ rs) (l ∷ ls) page = page-after bank row rs ls (stored bank row (r .dq) (l .beat) page)
+unfoldable pub page-after : Module → ℕ → ℕ → List Record → List Line → List ℕ → List ℕ
+page-after m bank row [] ls page = page
+page-after m bank row (r ∷ rs) [] page = page
+page-after m bank row (r ∷ rs) (l ∷ ls) page = page-after m bank row rs ls (stored m bank row (r .dq) (l .beat) page)

@@ -1,7 +1,7 @@
--- The one-record call from states, also from such as no trace reaches: 1, 3, 6, 7 and 25 in their order, each bound of 25 from both
--- sides, and what an event ahead or a bank not started gives. From document 01's sentences. Assumes nothing.
+-- The one-record call from states, also from such as no trace reaches: 1, 3, 4, 6, 7 and 25 in their order, each bound of 25 from both
+-- sides, and what an event ahead or a bank not started gives. From document 01's sentences, and 02's K9 for 4. Assumes nothing.
 use Prim.Native.Nat.{ℕ, _+_, _^_}
-use mathlib.Core.Bool.{Bool, true, false, _&&_}
+use mathlib.Core.Bool.{Bool, true, false, _&&_, not, cond}
 use mathlib.Core.List.{List, [], _∷_}
 use lib.Dec.{eqb, T}
 use lib.ListN.{replicate}
@@ -10,7 +10,9 @@ use Rattle.units.specs.declared.Event.the-variants.{Never, On}
 use Rattle.units.specs.Time.{clock, time}
 use Rattle.speed.specs.declared.SpeedTable.{SpeedTable}
 use Rattle.speed.specs.Table.{table, grade-133, table-fits}
-use Rattle.layout.specs.Bytes.{record-from}
+use Rattle.units.specs.Module.{rows, columns, lanes, module-of}
+use Rattle.layout.specs.Commands.{column-on}
+use Rattle.layout.specs.Bytes.{has-pins, lane-masks, record-from}
 use Rattle.mode.specs.Word.{length-of}
 use Rattle.mode.specs.Order.{beat-column}
 use Rattle.bursts.specs.declared.Burst.{Burst}
@@ -97,6 +99,7 @@ state period bank row number last startup bus banks =
       core =
           record {
             period = time period;
+            grade = 2;
             bank = bank;
             row = row;
             number = number;
@@ -105,6 +108,25 @@ state period bank row number last startup bus banks =
             bus = bus;
           };
       banks = banks;
+    }
+
+-- the same state with another grade
+abbrev of-grade : ℕ → State → State
+of-grade grade s =
+    let c = s .core in
+    record {
+      core =
+          record {
+            period = c .period;
+            grade = grade;
+            bank = c .bank;
+            row = c .row;
+            number = c .number;
+            last = c .last;
+            startup = c .startup;
+            bus = c .bus;
+          };
+      banks = s .banks;
     }
 
 abbrev four : Bank → List Bank
@@ -194,16 +216,25 @@ wrong period = state period 0 0 (2 ^ 41 + 1) Never not-begun quiet-bus (four no-
 
 abbrev pub cases : List Case
 cases =
-    -- "A record not 16 bytes long gives 1, then 3, 6, 7, 25 and 10 to the end follow": all faults at once, mended one by one
-    gives-with unfit 16383 (wrong 999) (replicate 15 0) 1
-    ∷ gives-with unfit 16383 (wrong 999) (replicate 17 0) 1
-    ∷ gives-with unfit 16383 (wrong 999) zero-set 3
-    ∷ gives-with unfit 16383 (wrong 65_536) zero-set 3
+    -- "A record not 16 bytes long gives 1, then 3, 6, 7, 25 and 10 to the end follow", 4 after 3: all faults at once, mended one by one
+    gives-with unfit 16383 (of-grade 3 (wrong 999)) (replicate 15 0) 1
+    ∷ gives-with unfit 16383 (of-grade 3 (wrong 999)) (replicate 17 0) 1
+    ∷ gives-with unfit 16383 (of-grade 3 (wrong 999)) zero-set 3
+    ∷ gives-with unfit 16383 (of-grade 3 (wrong 65_536)) zero-set 3
+    ∷ gives-with unfit 16383 (of-grade 3 (wrong 1_000)) zero-set 4
     ∷ gives-with unfit 16383 (wrong 1_000) zero-set 6
     ∷ gives-with grade-133 16383 (wrong 65_535) zero-set 7
     ∷ gives-with grade-133 16385 (wrong 7_500) zero-set 7
     ∷ gives (wrong 7_500) zero-set 25 0 0
     ∷ gives (with-number 5) zero-set 10 0 5
+    -- 4 "also for the state's grade": none but 1 and 2, with either module's page
+    ∷ gives (of-grade 0 (with-number 5)) nop 4 0 0
+    ∷ gives (of-grade 1 (with-number 5)) nop 0 0 5
+    ∷ gives (of-grade 2 (with-number 5)) nop 0 0 5
+    ∷ gives (of-grade 3 (with-number 5)) nop 4 0 0
+    ∷ gives (of-grade 4 (with-number 5)) nop 4 0 0
+    ∷ gives (of-grade 255 (with-number 5)) nop 4 0 0
+    ∷ gives-with grade-133 512 (of-grade 3 (with-number 5)) nop 4
     -- "a taken record 0 and its own number"; "10 and all below it report the record's number"
     ∷ gives (with-number 5) nop 0 0 5
     ∷ gives (with-number 5) active-1 14 0 5
@@ -260,5 +291,54 @@ cases =
     ∷ []
 
 pub cases-right : T (all-right cases)
-unfolding table-fits record-from length-of beat-column has-beat write-beat read-beat finished masks-on masks-after reads-from bus-after beat-on bursts-finished driven bus-clear put-lanes stored allowed banks-found of-closing of-any of-active of-access of-precharged of-precharge of-idle events minima every-rules place-rules minimum-rules mode-rules bus-rules command-rules rules ask startup-after beat core-from core-after bank-after commanded mark-banks banks-after next bank-fits burst-fits core-fits fits state-rules entry-rules judged step
+unfolding module-of rows columns lanes column-on has-pins lane-masks table-fits record-from length-of beat-column has-beat write-beat read-beat finished masks-on masks-after reads-from bus-after beat-on bursts-finished driven bus-clear put-lanes stored allowed banks-found of-closing of-any of-active of-access of-precharged of-precharge of-idle events minima every-rules place-rules minimum-rules mode-rules bus-rules command-rules rules ask startup-after beat core-from core-after bank-after commanded mark-banks banks-after next bank-fits burst-fits core-fits fits state-rules entry-rules judged step
 cases-right = tt
+
+-- ── 25 by the module: which places a state may hold ──
+
+-- a state, and whether 25 passes it
+pub record Fitting : Type 0 where
+  pub state : State
+  pub fit : Bool
+
+abbrev fit : State → Fitting
+fit s = record { state = s; fit = true }
+
+abbrev unfit-state : State → Fitting
+unfit-state s = record { state = s; fit = false }
+
+abbrev fitting : Fitting → Bool
+fitting k = cond (fits (k .state)) (k .fit) (not (k .fit))
+
+abbrev all-fitting : List Fitting → Bool
+all-fitting [] = true
+all-fitting (k ∷ ks) = fitting k && all-fitting ks
+
+-- loaded with this word, and a READ burst with it
+abbrev with-word : ℕ → State
+with-word word = with-startup (record { allclosed = Never; refreshes = None; register = Loaded word (clock 0) })
+
+abbrev pub places : List Fitting
+places =
+    -- the handheld has 4,096 rows: watched, open, and a burst's
+    fit (of-grade 3 (watching 3 4095))
+    ∷ unfit-state (of-grade 3 (watching 3 4096))
+    ∷ fit (of-grade 4 (with-bank (bank (Open 4095 (clock 0)) Never Never)))
+    ∷ unfit-state (of-grade 4 (with-bank (bank (Open 4096 (clock 0)) Never Never)))
+    ∷ unfit-state (of-grade 3 (with-write (dead 0 4096 0 0 Never 0x31)))
+    -- 256 columns
+    ∷ fit (of-grade 3 (with-write (dead 3 4095 255 0 Never 0x31)))
+    ∷ unfit-state (of-grade 3 (with-write (dead 0 0 256 0 Never 0x31)))
+    ∷ unfit-state (of-grade 4 (with-fourth (dead 0 0 256 0 Never 0x31)))
+    -- no full page: its word is reserved, loaded and in a burst; the bench has it
+    ∷ fit (of-grade 3 (with-word 0x33))
+    ∷ unfit-state (of-grade 3 (with-word 0x37))
+    ∷ unfit-state (of-grade 3 (with-write (dead 0 0 0 0 Never 0x37)))
+    ∷ unfit-state (of-grade 3 (with-fourth (dead 0 0 0 0 Never 0x37)))
+    ∷ fit (of-grade 1 (with-word 0x37))
+    ∷ fit (of-grade 2 (with-fourth (dead 3 8191 2047 0 Never 0x37)))
+    ∷ []
+
+pub places-right : T (all-fitting places)
+unfolding module-of rows columns bank-fits burst-fits core-fits fits
+places-right = tt

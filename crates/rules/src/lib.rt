@@ -1,7 +1,7 @@
 // Document 01's rules: the state that they speak of, and the answers that they give. The rules themselves are in specs/.
 ghost use mathlib.Core.Path.{_≡_};
 ghost use Rattle.rules.specs.Numbers.{number-of, interval-of};
-ghost use Rattle.rules.specs.OneRecord.{period-fits};
+ghost use Rattle.rules.specs.OneRecord.{period-fits, grade-known};
 use bursts::Beat;
 use bursts::Bus;
 use speed::SpeedTable;
@@ -49,9 +49,11 @@ pub struct Bank {
     pub stored: Event,
 }
 
-// The state but for its banks: what no number of the table reaches. `number` is that of the next record.
+// The state but for its banks: what no number of the table reaches. The grade says which module it is, `number` is that of
+// the next record.
 pub struct Core {
     pub period: Ps,
+    pub grade: u8,
     pub bank: u8,
     pub row: u16,
     pub number: u64,
@@ -140,4 +142,11 @@ pub fn period_fits(p: Ps) -> bool
     ensures { λ r. ⌜ r ≡ period-fits p ⌝ }
 {
     (1_000 <= p.0) & (p.0 <= 65_535)
+}
+
+// "Grade not 1 or 2" is number 4.
+pub fn grade_known(grade: u8) -> bool
+    ensures { λ r. ⌜ r ≡ grade-known grade ⌝ }
+{
+    (grade == 1) | (grade == 2)
 }

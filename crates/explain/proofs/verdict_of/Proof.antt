@@ -1,5 +1,10 @@
 -- `explain::verdict_of` meets its contract: what is explained is the judge's own verdict. Assumes nothing.
-use mathlib.Core.Path.{ap}
+use Prim.Native.Nat.{ℕ}
+use mathlib.Core.Path.{ap, sym, _∙_}
+use mathlib.Core.List.{[]}
+use lib.ListN.{replicate}
+use Rattle.units.proofs.Sizes.{bench-page}
+use Rattle.hawsehole.specs.Numbers.{whole-call}
 use Rattle.rules.specs.Report.{Left}
 use borrow.Author.Needs.{needs}
 use Rattle.explain.proofs.verdict_of.Statement.{statement}
@@ -21,7 +26,10 @@ judge-requires : tie.Need-judge-requires
 judge-requires c κs = search needs
 
 returns : tie.Need-returns
-returns c = ap (λ (l : Left). l .ran) (c .before .before .judge .ensures)
+returns c =
+    let args = c .before .before .before .before .before .before .args in
+    ap (λ (l : Left). l .ran)
+    (c .before .before .judge .ensures ∙ ap (λ (n : ℕ). whole-call (args .setup) (args .trace .now) (replicate n 0) []) (sym bench-page))
 
 pub verdict-of-spec : {M : Type 1} → statement M
 verdict-of-spec =

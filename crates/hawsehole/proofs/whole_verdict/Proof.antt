@@ -7,6 +7,7 @@ use Rattle.hawsehole.proofs.whole_verdict.Tie as tie
 use Rattle.hawsehole.proofs.whole_verdict.Reads as reads
 use Rattle.hawsehole.proofs.whole_verdict.Lts as lts
 use Rattle.rules.proofs.period_fits.Reads as period-fits-reads
+use Rattle.rules.proofs.grade_known.Reads as grade-known-reads
 use Rattle.hawsehole.proofs.lent_verdict.Reads as lent-verdict-reads
 use Rattle.rules.proofs.Verdict.refused.Reads as refused-reads
 
@@ -39,19 +40,22 @@ cast-t10 c = search needs
 period-fits-requires : tie.Need-period-fits-requires
 period-fits-requires c κs = search needs
 
+grade-known-requires : tie.Need-grade-known-requires
+grade-known-requires c κs = search needs
+
 lent-verdict-requires : tie.Need-lent-verdict-requires
 lent-verdict-requires c κs = search needs
 
 returns-3 : tie.Need-returns-3
 unfolding whole-rules
-returns-3 c = rw (whole-yes (c .before .before .before .before .before .before .before .before .before .before .before .args .h) (c .before .before .before .before .before .before .before .before .before .before .before .args .bytes) (c .before .before .before .before .before .before .before .before .before .if1 .left), eq-eqb _ _ (c .before .before .before .before .before .before .before .if2 .left), ← c .before .before .before .before .before .period-fits .ensures, c .before .before .before .before .if3 .taken, c .before .if4 .taken) (c .lent-verdict .ensures)
+returns-3 c = rw (whole-yes (c .before .before .before .before .before .before .before .before .before .before .args .h) (c .before .before .before .before .before .before .before .before .before .before .args .bytes) (c .before .before .before .before .before .before .before .before .if1 .left), eq-eqb _ _ (c .before .before .before .before .before .before .if2 .left), ← c .before .before .before .before .period-fits .ensures, c .before .before .before .if3 .taken, ← c .before .before .grade-known .ensures, c .before .if4 .taken) (c .lent-verdict .ensures)
 
 refused-requires-3 : tie.Need-refused-requires-3
 refused-requires-3 c κs = search needs
 
 returns-4 : tie.Need-returns-4
 unfolding whole-rules
-returns-4 c = rw (c .refused3 .ensures, whole-yes (c .before .before .before .before .before .before .before .before .before .before .before .args .h) (c .before .before .before .before .before .before .before .before .before .before .before .args .bytes) (c .before .before .before .before .before .before .before .before .before .if1 .left), eq-eqb _ _ (c .before .before .before .before .before .before .before .if2 .left), ← c .before .before .before .before .before .period-fits .ensures, c .before .before .before .before .if3 .taken, c .before .if4 .left)
+returns-4 c = rw (c .refused3 .ensures, whole-yes (c .before .before .before .before .before .before .before .before .before .before .args .h) (c .before .before .before .before .before .before .before .before .before .before .args .bytes) (c .before .before .before .before .before .before .before .before .if1 .left), eq-eqb _ _ (c .before .before .before .before .before .before .if2 .left), ← c .before .before .before .before .period-fits .ensures, c .before .before .before .if3 .taken, ← c .before .before .grade-known .ensures, c .before .if4 .left)
 
 refused-requires-4 : tie.Need-refused-requires-4
 refused-requires-4 c κs = search needs
@@ -73,6 +77,7 @@ whole-verdict-spec =
     returns-2
     cast-t10
     period-fits-requires
+    grade-known-requires
     lent-verdict-requires
     returns-3
     refused-requires-3

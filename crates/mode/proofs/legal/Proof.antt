@@ -3,6 +3,9 @@ use borrow.Author.Needs.{needs}
 use Rattle.mode.proofs.legal.Statement.{statement}
 use Rattle.mode.proofs.legal.Tie as tie
 
+has-full-page-requires : tie.Need-has-full-page-requires
+has-full-page-requires c κs = search needs
+
 latency-requires : tie.Need-latency-requires
 latency-requires c κs = search needs
 
@@ -13,7 +16,7 @@ full-page-requires : tie.Need-full-page-requires
 full-page-requires c κs = search needs
 
 returns : tie.Need-returns
-returns c = rw (c .before .before .latency .ensures, c .before .interleaved .ensures, c .full-page .ensures)
+returns c = rw (c .before .before .before .has-full-page .ensures, c .before .before .latency .ensures, c .before .interleaved .ensures, c .full-page .ensures)
 
 pub legal-spec : {M : Type 1} → statement M
-legal-spec = tie.close (tie.spec latency-requires interleaved-requires full-page-requires returns)
+legal-spec = tie.close (tie.spec has-full-page-requires latency-requires interleaved-requires full-page-requires returns)

@@ -25,10 +25,10 @@ same-length : tie.Need-same-length
 same-length c = search needs
 
 returns-2 : tie.Need-returns-2
-returns-2 c = rw (c .before .before .put-cells .ensures, c .before .before .before .before .before .before .before .before .beat .given .1) (watched _ _ _ _ _ (c .before .before .before .before .if1 .taken))
+returns-2 c = rw (c .before .before .put-cells .ensures, c .before .before .before .before .before .before .before .before .beat .given .1) (watched _ _ _ _ _ _ (c .before .before .before .before .if1 .taken))
 
 returns-3 : tie.Need-returns-3
-returns-3 c = rw (c .before .before .before .before .beat .given .1) (not-watched _ _ _ _ _ (c .if1 .left))
+returns-3 c = rw (c .before .before .before .before .beat .given .1) (not-watched _ _ _ _ _ _ (c .if1 .left))
 
 returns-4 : tie.Need-returns-4
 unfolding stored

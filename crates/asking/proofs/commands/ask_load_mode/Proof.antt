@@ -40,11 +40,14 @@ enum-told-2 c = search needs
 returns : tie.Need-returns
 returns c = rw (load-ladder _ (c .before .before .before .before .before .before .before .before .before .before .before .args .c) _ _ _ _ (c .before .before .before .before .before .before .before .before .before .before .before .pre .1), ← c .before .before .before .before .before .before .before .before .before .two-done .ensures, c .before .before .before .before .before .before .before .before .if1 .taken, ← c .before .before .before .before .before .before .before .all-closed .ensures, c .before .before .before .before .before .before .if2 .taken, ← c .before .before .before .before .before .any-shorts .ensures, ← c .before .before .before .before .idle-shorts .ensures, ← c .before .before .before .either .ensures, ← c .before .before .lowest .ensures, c .enum-told2 .given .1)
 
+of-grade-requires : tie.Need-of-grade-requires
+of-grade-requires c κs = search needs
+
 mode-verdict-requires : tie.Need-mode-verdict-requires
 mode-verdict-requires c κs = search needs
 
 returns-2 : tie.Need-returns-2
-returns-2 c = rw (c .mode-verdict .ensures, load-ladder _ (c .before .before .before .before .before .before .before .before .before .before .before .before .args .c) _ _ _ _ (c .before .before .before .before .before .before .before .before .before .before .before .before .pre .1), ← c .before .before .before .before .before .before .before .before .before .before .two-done .ensures, c .before .before .before .before .before .before .before .before .before .if1 .taken, ← c .before .before .before .before .before .before .before .before .all-closed .ensures, c .before .before .before .before .before .before .before .if2 .taken, ← c .before .before .before .before .before .before .any-shorts .ensures, ← c .before .before .before .before .before .idle-shorts .ensures, ← c .before .before .before .before .either .ensures, ← c .before .before .before .lowest .ensures, c .before .enum-told .given .1)
+returns-2 c = rw (c .mode-verdict .ensures, c .before .of-grade .ensures, load-ladder _ (c .before .before .before .before .before .before .before .before .before .before .before .before .before .args .c) _ _ _ _ (c .before .before .before .before .before .before .before .before .before .before .before .before .before .pre .1), ← c .before .before .before .before .before .before .before .before .before .before .before .two-done .ensures, c .before .before .before .before .before .before .before .before .before .before .if1 .taken, ← c .before .before .before .before .before .before .before .before .before .all-closed .ensures, c .before .before .before .before .before .before .before .before .if2 .taken, ← c .before .before .before .before .before .before .before .any-shorts .ensures, ← c .before .before .before .before .before .before .idle-shorts .ensures, ← c .before .before .before .before .before .either .ensures, ← c .before .before .before .before .lowest .ensures, c .before .before .enum-told .given .1)
 
 refused-requires : tie.Need-refused-requires
 refused-requires c κs = search needs
@@ -71,6 +74,7 @@ ask-load-mode-spec =
     enum-told
     enum-told-2
     returns
+    of-grade-requires
     mode-verdict-requires
     returns-2
     refused-requires

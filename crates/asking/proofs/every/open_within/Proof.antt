@@ -11,7 +11,7 @@ enum-known-x : tie.Need-enum-known-x
 enum-known-x c = search needs
 
 at-requires : tie.Need-at-requires
-at-requires c κs = let f = rw (c .before .x .given .1) at (c .before .before .before .pre .1) in record { clock = omega (arith, f .1); period = c .before .before .before .pre .0 }
+at-requires c κs = let f = rw (c .before .x .given .1) at (c .before .before .before .pre .1) in record { clock = omega (arith, f); period = c .before .before .before .pre .0 }
 
 within-requires : tie.Need-within-requires
 within-requires c κs = search needs

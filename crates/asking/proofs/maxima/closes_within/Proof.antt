@@ -15,10 +15,10 @@ enum-known-x : tie.Need-enum-known-x
 enum-known-x c = search needs
 
 closing-time-requires : tie.Need-closing-time-requires
-closing-time-requires c κs = let f = rw (c .before .x .given .1) at (c .before .before .before .pre .2) in (c .before .before .before .pre .0, c .before .before .before .pre .1, f .1)
+closing-time-requires c κs = let f = rw (c .before .x .given .1) at (c .before .before .before .pre .2) in (c .before .before .before .pre .0, c .before .before .before .pre .1, f)
 
 at-requires : tie.Need-at-requires
-at-requires c κs = let f = rw (c .before .before .x .given .1) at (c .before .before .before .before .pre .2) in record { clock = omega (arith, f .1); period = c .before .before .before .before .pre .1 }
+at-requires c κs = let f = rw (c .before .before .x .given .1) at (c .before .before .before .before .pre .2) in record { clock = omega (arith, f); period = c .before .before .before .before .pre .1 }
 
 within-requires : tie.Need-within-requires
 within-requires c κs = search needs

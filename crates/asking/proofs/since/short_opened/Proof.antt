@@ -14,7 +14,7 @@ enum-known-status : tie.Need-enum-known-status
 enum-known-status c = search needs
 
 short-on-requires : tie.Need-short-on-requires
-short-on-requires c κs = let f = rw (c .before .status .given .1) at (c .before .before .before .pre .1) in (record { clock = omega (arith, f .1); period = c .before .before .before .pre .0 }, c .before .before .before .pre .2)
+short-on-requires c κs = let f = rw (c .before .status .given .1) at (c .before .before .before .pre .1) in (record { clock = omega (arith, f); period = c .before .before .before .pre .0 }, c .before .before .before .pre .2)
 
 enum-told-2 : tie.Need-enum-told-2
 enum-told-2 c = search needs

@@ -6,11 +6,8 @@ use Rattle.bursts.proofs.Burst.at.Tie as tie
 a10-requires : tie.Need-a10-requires
 a10-requires c κs = search needs
 
-column-of-requires : tie.Need-column-of-requires
-column-of-requires c κs = search needs
-
 returns : tie.Need-returns
-returns c = rw (c .column-of .ensures, c .before .a10 .ensures)
+returns c = rw (c .a10 .ensures)
 
 pub at-spec : {M : Type 1} → statement M
-at-spec = tie.close (tie.spec a10-requires column-of-requires returns)
+at-spec = tie.close (tie.spec a10-requires returns)

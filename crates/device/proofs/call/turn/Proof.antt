@@ -25,6 +25,9 @@ returns c = rw (c .enum-told2 .given .1) (sym (turn-refused _ _ _ _ _ _ (sym (c 
 take-requires : tie.Need-take-requires
 take-requires c κs = (c .before .before .before .before .pre, clock-kept _ _ _ (sym (c .before .before .ask .ensures) ∙ c .enum-told .given .1))
 
+of-grade-requires : tie.Need-of-grade-requires
+of-grade-requires c κs = search needs
+
 stored-requires : tie.Need-stored-requires
 stored-requires c κs = search needs
 
@@ -32,7 +35,7 @@ same-length : tie.Need-same-length
 same-length c = search needs
 
 returns-2 : tie.Need-returns-2
-returns-2 c = rw (c .before .before .before .before .before .before .before .enum-told .given .1, c .before .before .stored .ensures, c .before .before .before .before .before .before .take .ensures) (sym (turn-taken _ _ _ _ (sym (c .before .before .before .before .before .before .before .before .before .ask .ensures) ∙ c .before .before .before .before .before .before .before .enum-told .given .1)))
+returns-2 c = rw (c .before .before .before .before .before .before .before .before .enum-told .given .1, c .before .before .stored .ensures, c .before .before .before .before .of-grade .ensures, c .before .before .before .before .before .before .before .take .ensures) (sym (turn-taken _ _ _ _ (sym (c .before .before .before .before .before .before .before .before .before .before .ask .ensures) ∙ c .before .before .before .before .before .before .before .before .enum-told .given .1)))
 
 pub turn-spec : {M : Type 1} → statement M
 turn-spec =
@@ -43,6 +46,7 @@ turn-spec =
     enum-told-2
     returns
     take-requires
+    of-grade-requires
     stored-requires
     same-length
     returns-2)

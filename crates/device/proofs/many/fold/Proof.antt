@@ -10,14 +10,18 @@ use borrow.Author.Needs.{needs}
 use Rattle.units.specs.declared.Clock.{Clock}
 use Rattle.units.specs.declared.Event.the-variants.{On}
 use Rattle.units.specs.Time.{at}
+use Rattle.units.proofs.Module.of_grade.Reads as of-grade-reads
+use Rattle.units.specs.declared.Module.{Module}
+use Rattle.units.specs.Module.{module-of}
 use Rattle.speed.specs.declared.SpeedTable.{SpeedTable}
 use Rattle.layout.specs.declared.Record.{Record}
 use Rattle.layout.specs.declared.Command.{Command}
-use Rattle.layout.specs.Bytes.{record-of, records-of}
+use Rattle.layout.specs.Bytes.{record-from, record-of, records-of}
 use Rattle.layout.specs.Widths.{Widths}
 use Rattle.layout.proofs.Widths.{record-fits}
 use Rattle.bursts.specs.declared.Bus.{Bus}
 use Rattle.bursts.specs.Bus.{bus-after}
+use Rattle.page.specs.Store.{stored}
 use Rattle.rules.specs.declared.Bank.{Bank}
 use Rattle.rules.specs.declared.Core.{Core}
 use Rattle.rules.specs.declared.State.{State}
@@ -66,33 +70,33 @@ abbrev setup-of : SpeedTable → Setup
 setup-of t = record { table = t }
 
 abbrev Inv-loop : tie.InvT-loop
-Inv-loop core bytes count page₀ beats₀ t number₀ last₀ startup₀ bus₀ held₀ words₀ j₀ page beats number last startup bus held words j =
+Inv-loop core bytes count page₀ beats₀ t m number₀ last₀ startup₀ bus₀ held₀ words₀ j₀ page beats number last startup bus held words j =
     (j ≤ count)
     × (length page ≡ length page₀)
     × (length beats ≡ length beats₀)
     × Packed held
     × Able (setup-of t) (state-of core number last startup bus (banks-in held)) (count - j)
-    × (fold (setup-of t) (state-of core number₀ last₀ startup₀ bus₀ (banks-in held₀)) (records-of count bytes) page₀ beats₀
-    ≡ fold (setup-of t) (state-of core number last startup bus (banks-in held)) (records-of (count - j) (drop (16 * j) bytes)) page beats)
+    × (fold (setup-of t) (state-of core number₀ last₀ startup₀ bus₀ (banks-in held₀)) (records-of (module-of (core .grade)) count bytes) page₀ beats₀
+    ≡ fold (setup-of t) (state-of core number last startup bus (banks-in held)) (records-of (module-of (core .grade)) (count - j) (drop (16 * j) bytes)) page beats)
     × (words ≡ words-ahead (drop (16 * j) bytes))
 
 abbrev μ-loop : tie.MeasureT-loop
-μ-loop core bytes count page₀ beats₀ t number₀ last₀ startup₀ bus₀ held₀ words₀ j₀ page beats number last startup bus held words j = count - j
+μ-loop core bytes count page₀ beats₀ t m number₀ last₀ startup₀ bus₀ held₀ words₀ j₀ page beats number last startup bus held words j = count - j
 
 -- ── A record that has been read ──
 
 module _ (c : tie.After-record-from Inv-loop μ-loop) where
   abbrev bytes-at : List ℕ
-  bytes-at = c .before .before .before .before .before .before .before .before .before .before .before .args .bytes .now
+  bytes-at = c .before .before .before .before .before .before .before .before .before .before .before .before .args .bytes .now
 
   abbrev part : List ℕ
   part = take 16 (drop (16 * c .before .before .loop .j) bytes-at)
 
   abbrev setup : Setup
-  setup = setup-of (c .before .before .before .before .before .before .before .before .before .before .before .args .u .table)
+  setup = setup-of (c .before .before .before .before .before .before .before .before .before .before .before .before .args .u .table)
 
   abbrev core-at : Core
-  core-at = c .before .before .before .before .before .before .before .before .before .before .before .args .core
+  core-at = c .before .before .before .before .before .before .before .before .before .before .before .before .args .core
 
   abbrev st : State
   st =
@@ -102,13 +106,14 @@ module _ (c : tie.After-record-from Inv-loop μ-loop) where
   abbrev rec : Record
   rec = c .record-from .result
 
-  read : rec ≡ record-of part
+  read : rec ≡ record-of (module-of (core-at .grade)) part
   read =
       c .record-from .ensures
-      ∙ words-read (c .before .before .loop .j) _ bytes-at (c .before .before .before .before .before .before .before .before .before .before .before .pre .0) (c .before .loop-test .taken) (c .before .before .loop .inv .6)
+      ∙ ap (λ (x : Module). record-from x (c .before .before .loop .words .first) (c .before .before .loop .words .second)) (c .before .before .before .before .before .before .before .of-grade .ensures)
+      ∙ words-read _ (c .before .before .loop .j) _ bytes-at (c .before .before .before .before .before .before .before .before .before .before .before .before .pre .0) (c .before .loop-test .taken) (c .before .before .loop .inv .6)
 
   widths : Widths rec
-  widths = subst (λ (x : Record). Widths x) (sym read) (record-fits part)
+  widths = subst (λ (x : Record). Widths x) (sym read) (record-fits (module-of (core-at .grade)) part)
 
   call : Call (setup .table) (st .core) (st .banks) rec
   call = able-call (c .before .before .loop .inv .4) rec widths
@@ -211,6 +216,9 @@ from-banks : (u : Setup) (c : Core) {bs cs : List Bank} → cs ≡ bs → (rs : 
     → fold u (whole c bs) rs page beats ≡ fold u (whole c cs) rs page beats
 from-banks u c h rs page beats = ap (λ (x : List Bank). fold u (whole c x) rs page beats) (sym h)
 
+of-grade-requires : tie.Need-of-grade-requires Inv-loop μ-loop
+of-grade-requires c κs = search needs
+
 hold-requires : tie.Need-hold-requires Inv-loop μ-loop
 hold-requires c κs = search needs
 
@@ -219,7 +227,7 @@ words-at-requires c κs = omega arith
 
 loop-holds : tie.Need-loop-holds Inv-loop μ-loop
 loop-holds c =
-    let a = c .before .before .before .before .before .before .before .before .args in
+    let a = c .before .before .before .before .before .before .before .before .before .args in
     let e : a .count ≡ a .count - 0 = sym (sub-zero (a .count)) in
     let s = whole (a .core) (banks-in (c .before .hold .result)) in (
       omega arith,
@@ -227,8 +235,8 @@ loop-holds c =
       refl,
       held-packed (c .before .hold .ensures),
       subst (λ (m : ℕ). Able (a .u) s m) e
-          (subst (λ (bs : List Bank). Able (a .u) (whole (a .core) bs) (a .count)) (sym (c .before .hold .ensures .banks)) (c .before .before .before .before .before .before .before .before .pre .1)),
-      ap (λ (m : ℕ). fold (a .u) s (records-of m (a .bytes .now)) (a .page .now) (a .beats .now)) e,
+          (subst (λ (bs : List Bank). Able (a .u) (whole (a .core) bs) (a .count)) (sym (c .before .hold .ensures .banks)) (c .before .before .before .before .before .before .before .before .before .pre .1)),
+      ap (λ (m : ℕ). fold (a .u) s (records-of (module-of (a .core .grade)) m (a .bytes .now)) (a .page .now) (a .beats .now)) e,
       c .words-at .ensures,
     )
 
@@ -270,7 +278,7 @@ returns c =
     let r = c .before .before .before .before .before .before .before in
     rw (c .ended .ensures, c .before .enum-told2 .given .1)
     (sym
-    (from-banks (c .before .before .before .before .before .before .before .before .before .before .before .before .before .before .before .before .before .before .args .u) (c .before .before .before .before .before .before .before .before .before .before .before .before .before .before .before .before .before .before .args .core) (c .before .before .before .before .before .before .before .before .before .before .before .hold .ensures .banks) _ _ _
+    (from-banks (c .before .before .before .before .before .before .before .before .before .before .before .before .before .before .before .before .before .before .before .args .u) (c .before .before .before .before .before .before .before .before .before .before .before .before .before .before .before .before .before .before .before .args .core) (c .before .before .before .before .before .before .before .before .before .before .before .hold .ensures .banks) _ _ _
     ∙ l .inv .5
     ∙ stops _ _ (l .j) (c .before .before .before .before .before .before .before .before .loop-test .taken) (setup r) (st r) _ _ _ _ refl (read r) _ _
     (asked-as (setup r) (st r) (rec r) (c .before .before .before .before .before .core-of .ensures) (c .before .before .before .before .before .before .clock-of .ensures) (c .before .before .before .ask .ensures) ∙ c .before .enum-told2 .given .1)))
@@ -314,10 +322,10 @@ add-number : tie.Need-add-number Inv-loop μ-loop
 add-number c = record { fits = omega (arith, c .before .before .before .before .before .before .before .before .before .before .before .before .before .before .before .before .before .before .before .before .before .before .before .before .before .before .before .before .loop .inv .4 .room) }
 
 add-j : tie.Need-add-j Inv-loop μ-loop
-add-j c = record { fits = omega (arith, c .before .before .before .before .before .before .before .before .before .before .before .before .before .before .before .before .before .before .before .before .before .before .before .before .before .before .before .loop-test .taken, c .before .before .before .before .before .before .before .before .before .before .before .before .before .before .before .before .before .before .before .before .before .before .before .before .before .before .before .before .before .before .before .before .before .before .before .before .before .fits .count .fits) }
+add-j c = record { fits = omega (arith, c .before .before .before .before .before .before .before .before .before .before .before .before .before .before .before .before .before .before .before .before .before .before .before .before .before .before .before .loop-test .taken, c .before .before .before .before .before .before .before .before .before .before .before .before .before .before .before .before .before .before .before .before .before .before .before .before .before .before .before .before .before .before .before .before .before .before .before .before .before .before .fits .count .fits) }
 
 words-at-requires-2 : tie.Need-words-at-requires-2 Inv-loop μ-loop
-words-at-requires-2 c κs = omega (arith, c .before .before .before .before .before .before .before .before .before .before .before .before .before .before .before .before .before .before .before .before .before .before .before .before .before .before .before .loop-test .taken, c .before .before .before .before .before .before .before .before .before .before .before .before .before .before .before .before .before .before .before .before .before .before .before .before .before .before .before .before .before .before .before .before .before .before .before .before .before .pre .0)
+words-at-requires-2 c κs = omega (arith, c .before .before .before .before .before .before .before .before .before .before .before .before .before .before .before .before .before .before .before .before .before .before .before .before .before .before .before .loop-test .taken, c .before .before .before .before .before .before .before .before .before .before .before .before .before .before .before .before .before .before .before .before .before .before .before .before .before .before .before .before .before .before .before .before .before .before .before .before .before .before .pre .0)
 
 loop-less : tie.Need-loop-less Inv-loop μ-loop
 loop-less c = omega (arith, c .before .before .before .before .before .before .before .before .before .before .before .before .before .before .before .before .before .before .before .before .before .before .before .before .before .before .before .before .loop-test .taken)
@@ -330,12 +338,12 @@ loop-again c =
     let lt = c .before .before .before .before .before .before .before .before .before .before .before .before .before .before .before .before .before .before .before .before .before .before .before .before .before .before .before .before .loop-test .taken in
     let x = left-at (c .before .before .before .before .before .before .before .before .before) in (
       omega (arith, lt),
-      c .before .before .before .before .before .before .before .stored .kept .1 .1 .1 .1 .0 ∙ l .inv .1,
+      c .before .before .before .before .before .before .before .stored .kept .1 .1 .1 .1 .1 .0 ∙ l .inv .1,
       c .before .before .before .report .kept .0 ∙ l .inv .2,
       held-packed (c .before .before .before .before .before .before .before .before .before .mark-bank .ensures),
       stays-able _ _ (l .j) lt (setup r) (st r) (rec r) (l .page) (l .beats) (part r) refl (read r) (stands a) x (l .inv .4),
       l .inv .5
-          ∙ goes-on _ _ (l .j) lt (setup r) (st r) (rec r) (l .page) (l .beats) (part r) refl (read r) (stands a) x (clock-is a) (c .before .before .before .before .before .before .before .stored .ensures) (c .before .before .before .report .ensures),
+          ∙ goes-on _ _ (l .j) lt (setup r) (st r) (rec r) (l .page) (l .beats) (part r) refl (read r) (stands a) x (clock-is a) (c .before .before .before .before .before .before .before .stored .ensures ∙ ap (λ (y : Module). stored y (core-at r .bank) (core-at r .row) (rec r .dq) (c .before .before .before .before .before .before .before .before .before .before .before .beat-on .result) (l .page)) (c .before .before .before .before .before .before .before .before .before .before .before .before .before .before .before .before .before .before .before .before .before .before .before .before .before .before .before .before .before .before .before .before .before .before .of-grade .ensures)) (c .before .before .before .report .ensures),
       c .words-at2 .ensures,
     )
 
@@ -352,15 +360,15 @@ returns-2 : tie.Need-returns-2 Inv-loop μ-loop
 unfolding fold records-of
 returns-2 c =
     let l = c .before .before .loop in
-    let a = c .before .before .before .before .before .before .before .before .before .before .before .args in
+    let a = c .before .before .before .before .before .before .before .before .before .before .before .before .args in
     let none : a .count - l .j ≡ 0 = omega (arith, c .before .loop-test .left) in
     rw (c .ended2 .ensures)
     (sym
-    (from-banks (a .u) (a .core) (c .before .before .before .before .hold .ensures .banks) (records-of (a .count) (a .bytes .now)) (a .page .now) (a .beats .now)
+    (from-banks (a .u) (a .core) (c .before .before .before .before .hold .ensures .banks) (records-of (module-of (a .core .grade)) (a .count) (a .bytes .now)) (a .page .now) (a .beats .now)
     ∙ l .inv .5
     ∙ ap
     (λ (m : ℕ). fold (setup-of (a .u .table)) (state-of (a .core) (l .number) (l .last) (l .startup) (l .bus) (banks-in (l .held)))
-    (records-of m (drop (16 * l .j) (a .bytes .now))) (l .page) (l .beats))
+    (records-of (module-of (a .core .grade)) m (drop (16 * l .j) (a .bytes .now))) (l .page) (l .beats))
     none))
 
 pub fold-spec : {M : Type 1} → statement M
@@ -369,6 +377,7 @@ fold-spec =
     (tie.spec
     Inv-loop
     μ-loop
+    of-grade-requires
     hold-requires
     words-at-requires
     loop-holds

@@ -33,7 +33,7 @@ bank-fits-requires-4 : tie.Need-bank-fits-requires-4
 bank-fits-requires-4 c κs = search needs
 
 returns : tie.Need-returns
-returns c = rw (c .bank-fits4 .ensures, c .before .before .bank-fits3 .ensures, c .before .before .before .before .bank-fits2 .ensures, c .before .before .before .before .before .before .bank-fits .ensures) (sym (every-four bank-fits (c .before .before .before .before .before .before .before .before .args .t1) (c .before .before .before .before .before .before .before .before .good .0 .1 .0 .1)))
+returns c = rw (c .bank-fits4 .ensures, c .before .before .bank-fits3 .ensures, c .before .before .before .before .bank-fits2 .ensures, c .before .before .before .before .before .before .bank-fits .ensures) (sym (every-four (bank-fits (c .before .before .before .before .before .before .before .before .args .m)) (c .before .before .before .before .before .before .before .before .args .t2) (c .before .before .before .before .before .before .before .before .good .1 .0 .1 .0 .1)))
 
 pub banks-fit-spec : {M : Type 1} → statement M
 banks-fit-spec =

@@ -17,10 +17,16 @@ event-fits-requires c κs = search needs
 legal-requires : tie.Need-legal-requires
 legal-requires c κs = search needs
 
+rows-requires : tie.Need-rows-requires
+rows-requires c κs = search needs
+
+columns-requires : tie.Need-columns-requires
+columns-requires c κs = search needs
+
 returns : tie.Need-returns
 unfolding burst-fits
-returns c = rw (c .before .before .before .legal .ensures, c .before .before .before .before .event-fits .ensures, c .before .before .before .before .before .clock-fits .ensures)
+returns c = rw (c .before .before .before .columns .ensures, c .before .before .before .before .rows .ensures, c .before .before .before .before .before .legal .ensures, c .before .before .before .before .before .before .event-fits .ensures, c .before .before .before .before .before .before .before .clock-fits .ensures)
 
 pub burst-fits-spec : {M : Type 1} → statement M
 burst-fits-spec =
-    tie.close (tie.spec clock-fits-requires event-fits-requires legal-requires returns)
+    tie.close (tie.spec clock-fits-requires event-fits-requires legal-requires rows-requires columns-requires returns)

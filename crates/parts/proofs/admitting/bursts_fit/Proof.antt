@@ -32,7 +32,7 @@ burst-fits-requires-4 : tie.Need-burst-fits-requires-4
 burst-fits-requires-4 c κs = search needs
 
 returns : tie.Need-returns
-returns c = rw (c .burst-fits4 .ensures, c .before .before .burst-fits3 .ensures, c .before .before .before .before .burst-fits2 .ensures, c .before .before .before .before .before .before .burst-fits .ensures) (sym (bursts-four (c .before .before .before .before .before .before .before .before .args .t1) (c .before .before .before .before .before .before .before .before .good .0 .1 .0 .1)))
+returns c = rw (c .burst-fits4 .ensures, c .before .before .burst-fits3 .ensures, c .before .before .before .before .burst-fits2 .ensures, c .before .before .before .before .before .before .burst-fits .ensures) (sym (bursts-four _ (c .before .before .before .before .before .before .before .before .args .t2) (c .before .before .before .before .before .before .before .before .good .1 .0 .1 .0 .1)))
 
 pub bursts-fit-spec : {M : Type 1} → statement M
 bursts-fit-spec =

@@ -17,10 +17,13 @@ startup-fits-requires c κs = search needs
 bus-fits-requires : tie.Need-bus-fits-requires
 bus-fits-requires c κs = search needs
 
+rows-requires : tie.Need-rows-requires
+rows-requires c κs = search needs
+
 returns : tie.Need-returns
 unfolding core-fits
-returns c = rw (c .before .before .before .bus-fits .ensures, c .before .before .before .before .startup-fits .ensures, c .before .before .before .before .before .event-fits .ensures)
+returns c = rw (c .before .before .before .rows .ensures, c .before .before .before .before .bus-fits .ensures, c .before .before .before .before .before .startup-fits .ensures, c .before .before .before .before .before .before .event-fits .ensures)
 
 pub core-fits-spec : {M : Type 1} → statement M
 core-fits-spec =
-    tie.close (tie.spec event-fits-requires startup-fits-requires bus-fits-requires returns)
+    tie.close (tie.spec event-fits-requires startup-fits-requires bus-fits-requires rows-requires returns)

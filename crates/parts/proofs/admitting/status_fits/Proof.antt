@@ -14,6 +14,9 @@ enum-known-x c = search needs
 clock-fits-requires : tie.Need-clock-fits-requires
 clock-fits-requires c κs = search needs
 
+rows-requires : tie.Need-rows-requires
+rows-requires c κs = search needs
+
 enum-known-x-2 : tie.Need-enum-known-x-2
 enum-known-x-2 c = search needs
 
@@ -21,7 +24,7 @@ returns : tie.Need-returns
 returns c = search needs
 
 returns-2 : tie.Need-returns-2
-returns-2 c = rw (c .before .before .x .given .1, c .clock-fits .ensures)
+returns-2 c = rw (c .before .before .before .x .given .1, c .rows .ensures, c .before .clock-fits .ensures)
 
 returns-3 : tie.Need-returns-3
 returns-3 c = rw (c .before .before .x2 .given .1)
@@ -33,6 +36,7 @@ status-fits-spec =
     enum-told
     enum-known-x
     clock-fits-requires
+    rows-requires
     enum-known-x-2
     returns
     returns-2

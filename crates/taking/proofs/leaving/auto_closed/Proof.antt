@@ -12,7 +12,7 @@ enum-known-x : tie.Need-enum-known-x
 enum-known-x c = search needs
 
 closing-time-requires : tie.Need-closing-time-requires
-closing-time-requires c κs = let f = rw (c .before .x .given .1) at (c .before .before .before .pre .2) in (c .before .before .before .pre .0, c .before .before .before .pre .1, f .1)
+closing-time-requires c κs = let f = rw (c .before .x .given .1) at (c .before .before .before .pre .2) in (c .before .before .before .pre .0, c .before .before .before .pre .1, f)
 
 enum-told-2 : tie.Need-enum-told-2
 enum-told-2 c = search needs
