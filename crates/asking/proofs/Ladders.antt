@@ -7,7 +7,6 @@ use Rattle.units.specs.declared.Clock.{Clock}
 use Rattle.units.specs.declared.Ps.{Ps}
 use Rattle.units.specs.Time.{by, occurred}
 use Rattle.units.specs.declared.Module.{Module}
-use Rattle.units.specs.Module.{module-of}
 use Rattle.speed.specs.declared.SpeedTable.{SpeedTable}
 use Rattle.layout.specs.declared.Record.{Record}
 use Rattle.layout.specs.declared.Command.{Command}
@@ -32,7 +31,7 @@ use Rattle.rules.specs.declared.Core.{Core}
 use Rattle.rules.specs.declared.Verdict.{Verdict}
 use Rattle.rules.specs.declared.Verdict.the-variants.{Taken, Refused}
 use Rattle.rules.specs.Numbers.{Rule, rule, first-broken, _⇒_}
-use Rattle.rules.specs.Parts.{word}
+use Rattle.rules.specs.Parts.{word, core-module}
 use Rattle.rules.specs.Closing.{burst-end, ends-by-itself, closes-within}
 use Rattle.rules.specs.StartUp.{begun, two-done, last-load, power-up, allowed}
 use Rattle.rules.specs.Banks.{bank-at, is-open, is-closed, closed, every, banks-found}
@@ -81,19 +80,19 @@ ladder : (k : Command) (t : SpeedTable) (c : Core) (bs : List Bank) (r : Record)
     ≡ cond (allowed k r now (c .startup))
     (cond (banks-found k (r .ba) bs)
     (then (lowest (shorts t (c .period) now (minima k (c .period) (c .startup) r bs)))
-    (then (first-broken (mode-rules k t (module-of (c .grade)) (c .period) r)) (first-broken (bus-rules k t c (bank-at bs (r .ba) .status) r n))))
+    (then (first-broken (mode-rules k t (core-module c) (c .period) r)) (first-broken (bus-rules k t c (bank-at bs (r .ba) .status) r n))))
     (Refused 15 0))
     (Refused 14 0)
 unfolding command-rules place-rules
 ladder k t c bs r n now =
     two-rows (allowed k r now (c .startup)) (banks-found k (r .ba) bs)
     (minimum-rules t (c .period) now (minima k (c .period) (c .startup) r bs)
-    ++ (mode-rules k t (module-of (c .grade)) (c .period) r ++ bus-rules k t c (bank-at bs (r .ba) .status) r n))
+    ++ (mode-rules k t (core-module c) (c .period) r ++ bus-rules k t c (bank-at bs (r .ba) .status) r n))
     ∙ ap (λ (v : Verdict). cond (allowed k r now (c .startup)) (cond (banks-found k (r .ba) bs) v (Refused 15 0)) (Refused 14 0))
-    (joined (minimum-rules t (c .period) now (minima k (c .period) (c .startup) r bs)) (mode-rules k t (module-of (c .grade)) (c .period) r)
+    (joined (minimum-rules t (c .period) now (minima k (c .period) (c .startup) r bs)) (mode-rules k t (core-module c) (c .period) r)
     (bus-rules k t c (bank-at bs (r .ba) .status) r n)
     ∙ ap
-    (λ (v : Verdict). then v (then (first-broken (mode-rules k t (module-of (c .grade)) (c .period) r)) (first-broken (bus-rules k t c (bank-at bs (r .ba) .status) r n))))
+    (λ (v : Verdict). then v (then (first-broken (mode-rules k t (core-module c) (c .period) r)) (first-broken (bus-rules k t c (bank-at bs (r .ba) .status) r n))))
     (minimum-lowest t (c .period) now (minima k (c .period) (c .startup) r bs)))
 
 -- rows 19 to 22 as tests
@@ -146,7 +145,7 @@ module _ (t : SpeedTable) (c : Core) (bs : List Bank) (r : Record) (n : Clock) (
           → cond (allowed k r now (c .startup))
           (cond (banks-found k (r .ba) bs)
           (then (lowest (shorts t (c .period) now (minima k (c .period) (c .startup) r bs)))
-          (then (first-broken (mode-rules k t (module-of (c .grade)) (c .period) r)) (first-broken (bus-rules k t c (bank-at bs (r .ba) .status) r n))))
+          (then (first-broken (mode-rules k t (core-module c) (c .period) r)) (first-broken (bus-rules k t c (bank-at bs (r .ba) .status) r n))))
           (Refused 15 0))
           (Refused 14 0)
           ≡ cond (precharge-all k r && by power-up now) Taken (Refused 14 0)
@@ -223,7 +222,7 @@ module _ (t : SpeedTable) (c : Core) (bs : List Bank) (r : Record) (n : Clock) (
         ≡ cond (two-done (c .startup .refreshes))
         (cond (every closed bs)
         (then (lowest (either (shorts t (c .period) now (of-any (c .period) (c .startup))) (shorts t (c .period) now (of-idle bs))))
-        (first-broken (mode-rules LoadMode t (module-of (c .grade)) (c .period) r)))
+        (first-broken (mode-rules LoadMode t (core-module c) (c .period) r)))
         (Refused 15 0))
         (Refused 14 0)
     unfolding allowed banks-found bus-rules

@@ -8,7 +8,6 @@ use lib.ListN.{length}
 use Rattle.speed.proofs.Bounds.{bounds}
 use Rattle.units.specs.declared.Module.{Module}
 use Rattle.layout.specs.declared.Record.{Record}
-use Rattle.layout.specs.Bytes.{record-of}
 use Rattle.layout.specs.Widths.{Widths}
 use Rattle.layout.proofs.ReadBack.{ReadWhole}
 use Rattle.layout.proofs.Widths.{record-fits}
@@ -17,12 +16,11 @@ use Rattle.rules.specs.declared.State.{State}
 use Rattle.rules.specs.declared.Setup.{Setup}
 use Rattle.rules.specs.declared.Verdict.{Verdict}
 use Rattle.rules.specs.declared.Verdict.the-variants.{Taken, Refused}
-use Rattle.rules.specs.Parts.{state-module}
 use Rattle.rules.specs.Numbers.{first-broken, number-of, interval-of}
 use Rattle.rules.specs.Rules.{ask}
 use Rattle.rules.specs.After.{own-beat, next, page-next}
 use Rattle.device.specs.Turn.{Turned, turned, turn-of}
-use Rattle.rules.specs.OneRecord.{state-rules, entry-rules, Stepped, stepped, answer-of, refused, judged, step}
+use Rattle.rules.specs.OneRecord.{state-rules, entry-rules, Stepped, stepped, answer-of, refused, judged, step, record-for}
 use Rattle.parts.specs.Reach.{Call}
 use Rattle.rules.proofs.Admitted.{admitted, bank-fits-at}
 use Rattle.rules.proofs.Kept.{kept}
@@ -66,11 +64,11 @@ module _ (u : Setup) (s : State) (bytes page : List ℕ) where
     pub step-unfit : (n i : ℕ) → first-broken (state-rules u s (length page)) ≡ Refused n i → step u s bytes page ≡ refused n i 0 s page
     step-unfit n i p = entry-refused u s bytes page n i (entry-state ∙ p)
 
-    pub step-turn : {r : Record} → first-broken (state-rules u s (length page)) ≡ Taken → r ≡ record-of (state-module s) bytes
+    pub step-turn : {r : Record} → first-broken (state-rules u s (length page)) ≡ Taken → r ≡ record-for s bytes
         → step u s bytes page ≡ from-turn (s .core .number) (turn-of u s r page)
     step-turn p e =
         step-entered u s bytes page (entry-state ∙ p)
-        ∙ judged-turn u s (record-of (state-module s) bytes) page
+        ∙ judged-turn u s (record-for s bytes) page
         ∙ ap (λ (x : Record). from-turn (s .core .number) (turn-of u s x page)) (sym e)
 
 -- what a call that is entered may rely on

@@ -23,7 +23,6 @@ unfoldable pub turn-of : Setup → State → Record → List ℕ → Turned
 turn-of u s r page =
     elim (ask u s r) [
       | Taken ↦
-          turned (record { verdict = Taken; beat = own-beat s r; next = next u s r })
-          (page-next s r page)
+          turned (record { verdict = Taken; beat = own-beat s r; next = next u s r }) (page-next s r page)
       | Refused n i ↦ turned (record { verdict = Refused n i; beat = Quiet; next = s }) page
     ]

@@ -2,10 +2,9 @@
 ghost use mathlib.Core.Path.{_≡_};
 ghost use Prim.Native.Nat.{_≤_, _*_, _+_};
 ghost use lib.ListN.{length, set, drop};
-ghost use Rattle.units.specs.Module.{module-of};
 ghost use Rattle.layout.specs.Bytes.{records-of};
 ghost use Rattle.rules.specs.Numbers.{first-broken};
-ghost use Rattle.rules.specs.Parts.{start};
+ghost use Rattle.rules.specs.Parts.{core-module, start};
 ghost use Rattle.rules.specs.Fits.{number-max};
 ghost use Rattle.parts.specs.Reach.{Able};
 ghost use Rattle.rules.specs.Report.{beat-word, cells-word, put-line, left, ran, fold, records-rules, records-call};
@@ -139,7 +138,7 @@ fn fold(
     beats: &mut [u64],
 ) -> Ran
     requires { ⌜ (length (now bytes) ≡ 16 * count) × Able u (whole core banks) count ⌝ }
-    ensures { λ x. ⌜ left x (now (page .exit)) (now (beats .exit)) ≡ fold u (whole core banks) (records-of (module-of (core .grade)) count (now (bytes .entry))) (now (page .entry)) (now (beats .entry)) ⌝ }
+    ensures { λ x. ⌜ left x (now (page .exit)) (now (beats .exit)) ≡ fold u (whole core banks) (records-of (core-module core) count (now (bytes .entry))) (now (page .entry)) (now (beats .entry)) ⌝ }
 {
     let t = u.table;
     let m = Module::of_grade(core.grade);
@@ -182,7 +181,7 @@ fn fold(
     ended(Verdict::Taken, number)
 }
 
-// What is tried before the first record: whole records, then 3, 6, 7, 25, and room for their numbers.
+// What is tried before the first record: whole records, then 3, 4, 6, 7, 25, and room for their numbers.
 fn records_verdict(u: Setup, s: State, bytes: usize, lent: usize) -> Verdict
     ensures { λ x. ⌜ x ≡ first-broken (records-rules u s bytes lent) ⌝ }
 {

@@ -13,7 +13,7 @@ use Rattle.units.specs.Module.{lanes, page-bytes}
 use Rattle.speed.specs.Table.{table-fits}
 use Rattle.units.specs.declared.Module.{Module}
 use Rattle.layout.specs.declared.Record.{Record}
-use Rattle.layout.specs.Bytes.{header-of, record-of, records-of}
+use Rattle.layout.specs.Bytes.{header-of, records-of}
 use Rattle.layout.proofs.Widths.{record-fits, record-on}
 use Rattle.bursts.specs.declared.Beat.{Beat}
 use Rattle.bursts.specs.declared.Beat.the-variants.{Quiet, Stores, Drives}
@@ -27,7 +27,7 @@ use Rattle.rules.specs.Numbers.{first-broken}
 use Rattle.rules.specs.Rules.{ask}
 use Rattle.rules.specs.After.{own-beat, core-from, core-after, next, page-next}
 use Rattle.rules.specs.Run.{line}
-use Rattle.rules.specs.OneRecord.{period-fits, grade-known, state-rules, entry-rules, Stepped, refused, taken, step}
+use Rattle.rules.specs.OneRecord.{period-fits, grade-known, state-rules, entry-rules, Stepped, refused, taken, step, record-for}
 use Rattle.rules.specs.Report.{put-line, left, ran, fold, records-rules, records-call}
 use Rattle.rules.proofs.Admitted.{fits-admitted}
 use Rattle.rules.proofs.Kept.{kept}
@@ -81,23 +81,23 @@ ready-entered u s count bytes page e h =
     rw (eq-eqb (length bytes) 16 h, e .period, e .grade, e .table, eq-eqb (length page) (page-bytes (state-module s)) (e .lent), fits-admitted s (e .able .state))
 
 -- a taken record leaves the same for one record less
-ready-next : (u : Setup) (s : State) (k : ℕ) (bytes page : List ℕ) → Ready u s (suc k) page → ask u s (record-of (state-module s) bytes) ≡ Taken
-    → Ready u (next u s (record-of (state-module s) bytes)) k (page-next s (record-of (state-module s) bytes) page)
+ready-next : (u : Setup) (s : State) (k : ℕ) (bytes page : List ℕ) → Ready u s (suc k) page → ask u s (record-for s bytes) ≡ Taken
+    → Ready u (next u s (record-for s bytes)) k (page-next s (record-for s bytes) page)
 unfolding next core-after core-from
 ready-next u s k bytes page e p =
     record {
-      able = able-next u s k (record-of (state-module s) bytes) (subst (λ (c : ℕ). Able u s c) (sym (add-one k)) (e .able)) (record-fits (state-module s) bytes) (record-on (state-module s) bytes) p;
+      able = able-next u s k (record-for s bytes) (subst (λ (c : ℕ). Able u s c) (sym (add-one k)) (e .able)) (record-fits (state-module s) bytes) (record-on (state-module s) bytes) p;
       period = e .period;
       grade = e .grade;
       table = e .table;
-      lent = stored-length (state-module s) (s .core .bank) (s .core .row) (record-of (state-module s) bytes .dq) (own-beat s (record-of (state-module s) bytes)) page ∙ e .lent;
+      lent = stored-length (state-module s) (s .core .bank) (s .core .row) (record-for s bytes .dq) (own-beat s (record-for s bytes)) page ∙ e .lent;
     }
 
 -- ── One call ──
 
 module _ (u : Setup) (s : State) (k : ℕ) (bytes page beats : List ℕ) where
   abbrev first : Record
-  first = record-of (state-module s) (take 16 bytes)
+  first = record-for s (take 16 bytes)
 
   -- a call that takes its record
   walk-taken : step u s (take 16 bytes) page ≡ taken u s first page
@@ -143,7 +143,7 @@ ready-walk u s (suc k) bytes page beats h e =
     (λ p. ready-walk u (next u s r) k (drop 16 bytes) (page-next s r page) (put-line (s .core .number) (line s r) beats) rest (ready-next u s k (take 16 bytes) page e p))
   where
     r : Record
-    r = record-of (state-module s) (take 16 bytes)
+    r = record-for s (take 16 bytes)
 
     rest : length (drop 16 bytes) ≡ 16 * k
     rest = simp length-drop (omega (arith, h))

@@ -27,7 +27,10 @@ whole h bytes = leb 16 bytes && eqb bytes (16 + 16 * h .count)
 -- 5, 6 and 7, with a page of so many bytes
 unfoldable pub lent-rules : Setup → Header → ℕ → List Rule
 lent-rules u h lent =
-    rule 5 0 (eqb (h .zeros) 0) ∷ rule 6 0 (table-fits (u .table)) ∷ rule 7 0 (eqb lent (page-bytes (module-of (h .grade)))) ∷ []
+    rule 5 0 (eqb (h .zeros) 0)
+    ∷ rule 6 0 (table-fits (u .table))
+    ∷ rule 7 0 (eqb lent (page-bytes (module-of (h .grade))))
+    ∷ []
 
 -- rows 1 to 7, for a trace of so many bytes with this header
 unfoldable pub whole-rules : Setup → Header → ℕ → ℕ → List Rule

@@ -1,4 +1,4 @@
--- What the functions behind the one-record call may rely on: its own checks 3, 6 and 25, as facts. Definitions only.
+-- What the functions behind the one-record call may rely on: its own checks 3, 6 and 25 (its clocks and times), as facts. Definitions only.
 use Prim.Native.Nat.{ℕ, _+_, _^_, _≤_}
 use mathlib.Core.List.{List}
 use Rattle.units.specs.declared.Clock.{Clock}
@@ -29,7 +29,7 @@ pub record Reach (p : Ps) (n : Clock) : Type 0 where
 pub record BanksFit (bs : List Bank) : Type 0 where
   pub each : (i : ℕ) → FitBank (bank-at bs i)
 
--- a call that 1, 3, 6, 7 and 25 passed
+-- a call that 1, 3, 4, 6, 7 and 25 passed
 pub record Call (t : SpeedTable) (c : Core) (bs : List Bank) (r : Record) : Type 0 where
   pub table : Bounds t
   pub period : FitPeriod (c .period)

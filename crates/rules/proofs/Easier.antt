@@ -13,7 +13,6 @@ use Rattle.units.specs.declared.Event.the-variants.{Never, On}
 use Rattle.units.specs.Time.{at}
 use Rattle.speed.specs.declared.SpeedTable.{SpeedTable}
 use Rattle.units.specs.declared.Module.{Module}
-use Rattle.units.specs.Module.{module-of}
 use Rattle.layout.specs.declared.Record.{Record}
 use Rattle.layout.specs.declared.Command.{Command}
 use Rattle.layout.specs.declared.Command.the-variants.{Active, Write, Precharge, LoadMode}
@@ -31,7 +30,7 @@ use Rattle.rules.specs.declared.State.{State}
 use Rattle.rules.specs.declared.Setup.{Setup}
 use Rattle.rules.specs.declared.Verdict.the-variants.{Taken}
 use Rattle.rules.specs.Numbers.{tRCD, tRAS, tRC, tRP, tRRD, tRFC, tWR, tMRD}
-use Rattle.rules.specs.Parts.{clock-of, now, word}
+use Rattle.rules.specs.Parts.{clock-of, now, word, core-module}
 use Rattle.rules.specs.StartUp.{begun, counted-refresh}
 use Rattle.rules.specs.Banks.{open-within}
 use Rattle.rules.specs.Minima.{Since, met}
@@ -170,7 +169,7 @@ module _ {t u : SpeedTable} (e : NowhereHarder t u) where
       softer-every (c .period) (c .startup .refreshes) r n moment h
       ⧺ softer-asked (executable k)
       (softer-place k (c .startup) r moment h
-      ⧺ (softer-minimum (c .period) moment (lower-minima k (c .period) (c .startup) r h) ⧺ (softer-mode k (module-of (c .grade)) (c .period) r ⧺ softer-bus k c r n _ _ (near-at h (r .ba)))))
+      ⧺ (softer-minimum (c .period) moment (lower-minima k (c .period) (c .startup) r h) ⧺ (softer-mode k (core-module c) (c .period) r ⧺ softer-bus k c r n _ _ (near-at h (r .ba)))))
 
   pub easier-taken : (c : Core) (r : Record) {bs ds : List Bank} → NearBanks bs ds
       → ask (setup t) (state-of c bs) r ≡ Taken → ask (setup u) (state-of c ds) r ≡ Taken

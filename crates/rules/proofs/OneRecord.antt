@@ -27,13 +27,13 @@ use Rattle.rules.specs.declared.State.{State}
 use Rattle.rules.specs.declared.Setup.{Setup}
 use Rattle.rules.specs.declared.Verdict.{Verdict}
 use Rattle.rules.specs.declared.Verdict.the-variants.{Taken, Refused}
-use Rattle.rules.specs.Parts.{state-module}
+use Rattle.rules.specs.Parts.{state-module, core-module}
 use Rattle.rules.specs.Numbers.{first-broken}
 use Rattle.rules.specs.Rules.{every-rules, place-rules, minimum-rules, mode-rules, bus-rules, command-rules, rules, ask}
 use Rattle.rules.specs.Fits.{bank-fits, core-fits, fits, number-max}
 use Rattle.rules.specs.Admitted.{Admitted}
 use Rattle.rules.specs.After.{own-beat, beat, core-after, banks-after, next}
-use Rattle.rules.specs.OneRecord.{period-fits, grade-known, state-rules, entry-rules, Stepped, stepped, answer-of, refused, taken, judged, step}
+use Rattle.rules.specs.OneRecord.{period-fits, grade-known, state-rules, entry-rules, Stepped, stepped, answer-of, refused, taken, judged, step, record-for}
 use Rattle.rules.specs.Harder.{NowhereHarder, Near, same, earlier, NearBanks, NearStates, near}
 use Rattle.rules.proofs.Tests.{_⊑_, ⊑-self, ⊑-true, ⊑-leb, ⊑-and, Softer, end, _▸_, softer-taken}
 use Rattle.rules.proofs.Kept.{rules-of, command-rules-of, kept, all-numbers, numbers-asked, zero-taken}
@@ -68,7 +68,7 @@ unfolding judged
 judged-refused u s r page n i p = rw (p, judged)
 
 pub step-entered : (u : Setup) (s : State) (bytes page : List ℕ) → first-broken (entry-rules u s bytes page) ≡ Taken
-    → step u s bytes page ≡ judged u s (record-of (state-module s) bytes) page
+    → step u s bytes page ≡ judged u s (record-for s bytes) page
 unfolding step
 step-entered u s bytes page p = rw (p, step)
 
@@ -80,18 +80,18 @@ entry-refused u s bytes page n i p = rw (p, step)
 
 -- what holds of a call, shown by what it finds
 pub by-step : (P : Stepped → Type 0) (u : Setup) (s : State) (bytes page : List ℕ)
-    → (first-broken (entry-rules u s bytes page) ≡ Taken → ask u s (record-of (state-module s) bytes) ≡ Taken → P (taken u s (record-of (state-module s) bytes) page))
+    → (first-broken (entry-rules u s bytes page) ≡ Taken → ask u s (record-for s bytes) ≡ Taken → P (taken u s (record-for s bytes) page))
     → ((n i k : ℕ) → P (refused n i k s page))
     → P (step u s bytes page)
 by-step P u s bytes page f g = enter (first-broken (entry-rules u s bytes page)) refl
   where
     enter : (v : Verdict) → first-broken (entry-rules u s bytes page) ≡ v → P (step u s bytes page)
     enter (Refused n i) p = rw (entry-refused u s bytes page n i p) (g n i 0)
-    enter Taken p = rw (step-entered u s bytes page p) (look (ask u s (record-of (state-module s) bytes)) refl)
+    enter Taken p = rw (step-entered u s bytes page p) (look (ask u s (record-for s bytes)) refl)
       where
-        look : (v : Verdict) → ask u s (record-of (state-module s) bytes) ≡ v → P (judged u s (record-of (state-module s) bytes) page)
-        look Taken q = rw (judged-taken u s (record-of (state-module s) bytes) page q) (f p q)
-        look (Refused n i) q = rw (judged-refused u s (record-of (state-module s) bytes) page n i q) (g n i (s .core .number))
+        look : (v : Verdict) → ask u s (record-for s bytes) ≡ v → P (judged u s (record-for s bytes) page)
+        look Taken q = rw (judged-taken u s (record-for s bytes) page q) (f p q)
+        look (Refused n i) q = rw (judged-refused u s (record-for s bytes) page n i q) (g n i (s .core .number))
 
 -- A CALL THAT DOES NOT TAKE ITS RECORD LEAVES STATE AND PAGE AS THEY WERE
 pub record Untouched (s : State) (before : List ℕ) (x : Stepped) : Type 0 where
@@ -122,7 +122,7 @@ rules-numbers u s r =
 
 pub record Entering (u : Setup) (s : State) (bytes page : List ℕ) : Type 0 where
   pub entered : first-broken (entry-rules u s bytes page) ≡ Taken
-  pub asked : ask u s (record-of (state-module s) bytes) ≡ Taken
+  pub asked : ask u s (record-for s bytes) ≡ Taken
 
 pub taken-at-zero : (u : Setup) (s : State) (bytes page : List ℕ) → step u s bytes page .answer .number ≡ 0 → Entering u s bytes page
 unfolding ask
@@ -134,19 +134,19 @@ taken-at-zero u s bytes page z = enter (first-broken (entry-rules u s bytes page
         let q : _≡_ {A = Verdict} (Refused n i) Taken = zero-taken (entry-rules u s bytes page) (Refused n i) (entry-numbers u s bytes page) p h in
         let e : _≡_ {A = ℕ} 0 1 = cc in
         absurd (omega arith)
-    enter Taken p = look (ask u s (record-of (state-module s) bytes)) refl
+    enter Taken p = look (ask u s (record-for s bytes)) refl
       where
-        look : (v : Verdict) → ask u s (record-of (state-module s) bytes) ≡ v → Entering u s bytes page
+        look : (v : Verdict) → ask u s (record-for s bytes) ≡ v → Entering u s bytes page
         look Taken q = record { entered = p; asked = q }
         look (Refused n i) q =
-            let w : step u s bytes page ≡ refused n i (s .core .number) s page = rw (step-entered u s bytes page p) (judged-refused u s (record-of (state-module s) bytes) page n i q) in
+            let w : step u s bytes page ≡ refused n i (s .core .number) s page = rw (step-entered u s bytes page p) (judged-refused u s (record-for s bytes) page n i q) in
             let h : n ≡ 0 = subst (λ (x : Stepped). x .answer .number ≡ 0) w z in
-            let k : _≡_ {A = Verdict} (Refused n i) Taken = zero-taken (rules-of u s (record-of (state-module s) bytes)) (Refused n i) (rules-numbers u s (record-of (state-module s) bytes)) q h in
+            let k : _≡_ {A = Verdict} (Refused n i) Taken = zero-taken (rules-of u s (record-for s bytes)) (Refused n i) (rules-numbers u s (record-for s bytes)) q h in
             let e : _≡_ {A = ℕ} 0 1 = cc in
             absurd (omega arith)
 
-pub step-taken : (u : Setup) (s : State) (bytes page : List ℕ) → Entering u s bytes page → step u s bytes page ≡ taken u s (record-of (state-module s) bytes) page
-step-taken u s bytes page e = rw (step-entered u s bytes page (e .entered)) (judged-taken u s (record-of (state-module s) bytes) page (e .asked))
+pub step-taken : (u : Setup) (s : State) (bytes page : List ℕ) → Entering u s bytes page → step u s bytes page ≡ taken u s (record-for s bytes) page
+step-taken u s bytes page e = rw (step-entered u s bytes page (e .entered)) (judged-taken u s (record-for s bytes) page (e .asked))
 
 -- ── DEMAND 3 by state ──
 
@@ -157,7 +157,7 @@ unfolding bank-fits
 
 ⊑-fits : (c : Core) {bs ds : List Bank} → NearBanks bs ds → fits (state-of c bs) ⊑ fits (state-of c ds)
 unfolding fits
-⊑-fits c h = ⊑-and {a = core-fits (module-of (c .grade)) c} ⊑-self (⊑-every (bank-fits (module-of (c .grade))) (bank-fits (module-of (c .grade))) (⊑-bank-fits (module-of (c .grade))) h)
+⊑-fits c h = ⊑-and {a = core-fits (core-module c) c} ⊑-self (⊑-every (bank-fits (core-module c)) (bank-fits (core-module c)) (⊑-bank-fits (core-module c)) h)
 
 -- the same answer and page, and states that are near
 pub record Agree (a b : Stepped) : Type 0 where
@@ -175,7 +175,7 @@ module _ {t u : SpeedTable} (e : NowhereHarder t u) (fit : table-fits u ≡ true
   abbrev left-by : Core → Record → List Bank → ℕ → Stepped
   left-by c r ds row =
       stepped (answer-of 0 0 (c .number) (beat c r row)) (state-of (core-after c r row) (banks-after u c r (beat c r row) ds))
-      (stored (module-of (c .grade)) (c .bank) (c .row) (r .dq) (beat c r row) page)
+      (stored (core-module c) (c .bank) (c .row) (r .dq) (beat c r row) page)
 
   taken-agree : (c : Core) (r : Record) {bs ds : List Bank} → NearBanks bs ds → Agree (taken (setup t) (state-of c bs) r page) (taken (setup u) (state-of c ds) r page)
   unfolding next
@@ -191,10 +191,10 @@ module _ {t u : SpeedTable} (e : NowhereHarder t u) (fit : table-fits u ≡ true
       let goes : Entering (setup u) (state-of c ds) bytes page =
       record {
         entered = softer-taken (entry-softer c h) (went .entered);
-        asked = easier-taken e c (record-of (module-of (c .grade)) bytes) h (went .asked);
+        asked = easier-taken e c (record-of (core-module c) bytes) h (went .asked);
       } in
       rw (step-taken (setup t) (state-of c bs) bytes page went, step-taken (setup u) (state-of c ds) bytes page goes)
-      (taken-agree c (record-of (module-of (c .grade)) bytes) h)
+      (taken-agree c (record-of (core-module c) bytes) h)
 
 -- ── Admitted stays admitted, by the call ──
 
@@ -202,7 +202,7 @@ pub period-most : (p : Ps) → period-fits p ≡ true → p .0 ≤ 65_535
 period-most p h = leb-true _ _ (both (leb 1_000 (p .0)) (leb (p .0) 65_535) h .1)
 
 entered-of : (u : Setup) (s : State) (bytes page : List ℕ) → first-broken (entry-rules u s bytes page) ≡ Taken → s .core .number < number-max
-    → Entered u (s .core) (record-of (state-module s) bytes)
+    → Entered u (s .core) (record-for s bytes)
 unfolding entry-rules state-rules
 entered-of u s bytes page p h =
     let table = bounds (u .table) (kept 6 0 (entry-rules u s bytes page) p) in
@@ -225,5 +225,5 @@ pub taken-fits : (u : Setup) (s : State) (bytes page : List ℕ) → s .core .nu
 taken-fits u s bytes page h z =
     let e = taken-at-zero u s bytes page z in
     rw (step-taken u s bytes page e)
-    (fits-admitted (next u s (record-of (state-module s) bytes))
-    (stays u s (record-of (state-module s) bytes) (entered-of u s bytes page (e .entered) h) (admitted-of u s bytes page (e .entered)) (e .asked)))
+    (fits-admitted (next u s (record-for s bytes))
+    (stays u s (record-for s bytes) (entered-of u s bytes page (e .entered) h) (admitted-of u s bytes page (e .entered)) (e .asked)))

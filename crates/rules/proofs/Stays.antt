@@ -49,7 +49,7 @@ use Rattle.rules.specs.declared.State.{State}
 use Rattle.rules.specs.declared.Setup.{Setup}
 use Rattle.rules.specs.declared.Verdict.the-variants.{Taken}
 use Rattle.rules.specs.Numbers.{asked, _⇒_}
-use Rattle.rules.specs.Parts.{clock-of, now, word-in, word, start, no-bank, state-module}
+use Rattle.rules.specs.Parts.{clock-of, now, word-in, word, start, no-bank, state-module, core-module}
 use Rattle.rules.specs.StartUp.{begun, last-refresh}
 use Rattle.rules.specs.Banks.{bank-at, row-of}
 use Rattle.rules.specs.Closing.{burst-end}
@@ -223,7 +223,7 @@ pub record Entered (u : Setup) (c : Core) (r : Record) : Type 0 where
   pub trasmin : u .table .trasmin .0 ≤ 200_000_000
   pub addition : u .table .addition .0 ≤ 200_000_000
   pub widths : Widths r
-  pub place : OnModule (module-of (c .grade)) r
+  pub place : OnModule (core-module c) r
   pub number : c .number < number-max
 
 module _ (u : Setup) (s : State) (r : Record) (g : Entered u (s .core) r) (a : Admitted s) (p : ask u s r ≡ Taken) where

@@ -43,6 +43,10 @@ state-rules u s lent =
 unfoldable pub entry-rules : Setup → State → List ℕ → List ℕ → List Rule
 entry-rules u s bytes page = rule 1 0 (eqb (length bytes) 16) ∷ state-rules u s (length page)
 
+-- the record that these bytes are to the state's module
+abbrev pub record-for : State → List ℕ → Record
+record-for s bytes = record-of (state-module s) bytes
+
 -- what the call leaves: "the state goes in, and the answer comes back beside the next state"; and the page
 pub record Stepped : Type 0 where
   pub answer : Answer
@@ -62,8 +66,7 @@ refused number interval reported s page = stepped (answer-of number interval rep
 -- "a taken record 0 and its own number"
 abbrev pub taken : Setup → State → Record → List ℕ → Stepped
 taken u s r page =
-    stepped (answer-of 0 0 (s .core .number) (own-beat s r)) (next u s r)
-    (page-next s r page)
+    stepped (answer-of 0 0 (s .core .number) (own-beat s r)) (next u s r) (page-next s r page)
 
 -- ask, and take where nothing was found: "10 and all below it report the record's number"
 unfoldable pub judged : Setup → State → Record → List ℕ → Stepped
@@ -77,6 +80,6 @@ judged u s r page =
 unfoldable pub step : Setup → State → List ℕ → List ℕ → Stepped
 step u s bytes page =
     elim (first-broken (entry-rules u s bytes page)) [
-      | Taken ↦ judged u s (record-of (state-module s) bytes) page
+      | Taken ↦ judged u s (record-for s bytes) page
       | Refused n i ↦ refused n i 0 s page
     ]

@@ -35,8 +35,11 @@ abbrev pub now : Core → Record → Ps
 now c r = ps c (clock-of c r)
 
 -- "The grade in header or state fixes the geometry" (02, K9)
+abbrev pub core-module : Core → Module
+core-module c = module-of (c .grade)
+
 abbrev pub state-module : State → Module
-state-module s = module-of (s .core .grade)
+state-module s = core-module (s .core)
 
 -- the mode word in the register; before the first LOAD MODE no record that reads it is taken
 abbrev pub word-in : Register → ℕ

@@ -57,12 +57,11 @@ fold u s [] page beats = left (ran Taken (s .core .number)) page beats
 fold u s (r ∷ rs) page beats =
     elim (ask u s r) [
       | Taken ↦
-          fold u (next u s r) rs (page-next s r page)
-          (put-line (s .core .number) (line s r) beats)
+          fold u (next u s r) rs (page-next s r page) (put-line (s .core .number) (line s r) beats)
       | Refused n i ↦ left (ran (Refused n i) (s .core .number)) page beats
     ]
 
--- what is tried before the first of the records: 1, where the bytes are no whole records; 3, 6, 7 and 25; and 25 also where the
+-- what is tried before the first of the records: 1, where the bytes are no whole records; 3, 4, 6, 7 and 25; and 25 also where the
 -- records would take the record number past 2^41
 unfoldable pub records-rules : Setup → State → ℕ → ℕ → List Rule
 records-rules u s bytes lent =

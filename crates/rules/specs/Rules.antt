@@ -9,7 +9,6 @@ use Rattle.units.specs.declared.Event.{Event}
 use Rattle.units.specs.declared.Event.the-variants.{Never, On}
 use Rattle.units.specs.Time.{at, by, plus}
 use Rattle.units.specs.declared.Module.{Module}
-use Rattle.units.specs.Module.{module-of}
 use Rattle.speed.specs.declared.SpeedTable.{SpeedTable}
 use Rattle.layout.specs.declared.Record.{Record}
 use Rattle.layout.specs.declared.Command.{Command}
@@ -26,7 +25,7 @@ use Rattle.rules.specs.declared.State.{State}
 use Rattle.rules.specs.declared.Setup.{Setup}
 use Rattle.rules.specs.declared.Verdict.{Verdict}
 use Rattle.rules.specs.Numbers.{Rule, rule, first-broken, asked, _⇒_, tRCD, tRAS, tRC, tRP, tRRD, tRFC, tWR, tMRD}
-use Rattle.rules.specs.Parts.{clock-of, now, word}
+use Rattle.rules.specs.Parts.{clock-of, now, word, core-module}
 use Rattle.rules.specs.StartUp.{allowed, counted-refresh}
 use Rattle.rules.specs.Banks.{bank-at, every, open-within, banks-found}
 use Rattle.rules.specs.Minima.{Since, minima, met}
@@ -97,7 +96,7 @@ unfoldable pub command-rules : Command → SpeedTable → Core → List Bank →
 command-rules k t c bs r n moment =
     place-rules k (c .startup) bs r moment
     ++ (minimum-rules t (c .period) moment (minima k (c .period) (c .startup) r bs)
-    ++ (mode-rules k t (module-of (c .grade)) (c .period) r ++ bus-rules k t c (bank-at bs (r .ba) .status) r n))
+    ++ (mode-rules k t (core-module c) (c .period) r ++ bus-rules k t c (bank-at bs (r .ba) .status) r n))
 
 -- "12 and 13 are tried on every record, NOP and COMMAND INHIBIT included, 14 to 22 only on executable commands"
 unfoldable pub rules : SpeedTable → Core → List Bank → Record → Clock → Ps → List Rule

@@ -12,7 +12,6 @@ use Rattle.units.specs.declared.Event.the-variants.{On}
 use Rattle.units.specs.Time.{at}
 use Rattle.units.proofs.Module.of_grade.Reads as of-grade-reads
 use Rattle.units.specs.declared.Module.{Module}
-use Rattle.units.specs.Module.{module-of}
 use Rattle.speed.specs.declared.SpeedTable.{SpeedTable}
 use Rattle.layout.specs.declared.Record.{Record}
 use Rattle.layout.specs.declared.Command.{Command}
@@ -27,7 +26,7 @@ use Rattle.rules.specs.declared.Core.{Core}
 use Rattle.rules.specs.declared.State.{State}
 use Rattle.rules.specs.declared.Setup.{Setup}
 use Rattle.rules.specs.declared.Verdict.the-variants.{Taken}
-use Rattle.rules.specs.Parts.{clock-of, word-in}
+use Rattle.rules.specs.Parts.{clock-of, word-in, core-module}
 use Rattle.rules.specs.StartUp.{begun}
 use Rattle.rules.specs.Banks.{bank-at, row-of}
 use Rattle.rules.specs.Closing.{burst-end}
@@ -76,8 +75,8 @@ Inv-loop core bytes count page₀ beats₀ t m number₀ last₀ startup₀ bus�
     × (length beats ≡ length beats₀)
     × Packed held
     × Able (setup-of t) (state-of core number last startup bus (banks-in held)) (count - j)
-    × (fold (setup-of t) (state-of core number₀ last₀ startup₀ bus₀ (banks-in held₀)) (records-of (module-of (core .grade)) count bytes) page₀ beats₀
-    ≡ fold (setup-of t) (state-of core number last startup bus (banks-in held)) (records-of (module-of (core .grade)) (count - j) (drop (16 * j) bytes)) page beats)
+    × (fold (setup-of t) (state-of core number₀ last₀ startup₀ bus₀ (banks-in held₀)) (records-of (core-module core) count bytes) page₀ beats₀
+    ≡ fold (setup-of t) (state-of core number last startup bus (banks-in held)) (records-of (core-module core) (count - j) (drop (16 * j) bytes)) page beats)
     × (words ≡ words-ahead (drop (16 * j) bytes))
 
 abbrev μ-loop : tie.MeasureT-loop
@@ -106,14 +105,14 @@ module _ (c : tie.After-record-from Inv-loop μ-loop) where
   abbrev rec : Record
   rec = c .record-from .result
 
-  read : rec ≡ record-of (module-of (core-at .grade)) part
+  read : rec ≡ record-of (core-module core-at) part
   read =
       c .record-from .ensures
       ∙ ap (λ (x : Module). record-from x (c .before .before .loop .words .first) (c .before .before .loop .words .second)) (c .before .before .before .before .before .before .before .of-grade .ensures)
       ∙ words-read _ (c .before .before .loop .j) _ bytes-at (c .before .before .before .before .before .before .before .before .before .before .before .before .pre .0) (c .before .loop-test .taken) (c .before .before .loop .inv .6)
 
   widths : Widths rec
-  widths = subst (λ (x : Record). Widths x) (sym read) (record-fits (module-of (core-at .grade)) part)
+  widths = subst (λ (x : Record). Widths x) (sym read) (record-fits (core-module core-at) part)
 
   call : Call (setup .table) (st .core) (st .banks) rec
   call = able-call (c .before .before .loop .inv .4) rec widths
@@ -236,7 +235,7 @@ loop-holds c =
       held-packed (c .before .hold .ensures),
       subst (λ (m : ℕ). Able (a .u) s m) e
           (subst (λ (bs : List Bank). Able (a .u) (whole (a .core) bs) (a .count)) (sym (c .before .hold .ensures .banks)) (c .before .before .before .before .before .before .before .before .before .pre .1)),
-      ap (λ (m : ℕ). fold (a .u) s (records-of (module-of (a .core .grade)) m (a .bytes .now)) (a .page .now) (a .beats .now)) e,
+      ap (λ (m : ℕ). fold (a .u) s (records-of (core-module (a .core)) m (a .bytes .now)) (a .page .now) (a .beats .now)) e,
       c .words-at .ensures,
     )
 
@@ -364,11 +363,11 @@ returns-2 c =
     let none : a .count - l .j ≡ 0 = omega (arith, c .before .loop-test .left) in
     rw (c .ended2 .ensures)
     (sym
-    (from-banks (a .u) (a .core) (c .before .before .before .before .hold .ensures .banks) (records-of (module-of (a .core .grade)) (a .count) (a .bytes .now)) (a .page .now) (a .beats .now)
+    (from-banks (a .u) (a .core) (c .before .before .before .before .hold .ensures .banks) (records-of (core-module (a .core)) (a .count) (a .bytes .now)) (a .page .now) (a .beats .now)
     ∙ l .inv .5
     ∙ ap
     (λ (m : ℕ). fold (setup-of (a .u .table)) (state-of (a .core) (l .number) (l .last) (l .startup) (l .bus) (banks-in (l .held)))
-    (records-of (module-of (a .core .grade)) m (drop (16 * l .j) (a .bytes .now))) (l .page) (l .beats))
+    (records-of (core-module (a .core)) m (drop (16 * l .j) (a .bytes .now))) (l .page) (l .beats))
     none))
 
 pub fold-spec : {M : Type 1} → statement M
