@@ -2,3 +2,4 @@ pub mod Trace
 pub mod Numbers
 pub mod Walk
 pub mod Printed
+pub mod ModuleCases
