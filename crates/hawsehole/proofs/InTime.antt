@@ -46,7 +46,6 @@ no-23-no-25 u trace page n i =
 
 -- a row of 13 bits is one of the bench's
 bench-row : (grade row : ℕ) → grade-known grade ≡ true → row < 2 ^ 13 → row < rows (module-of grade)
-unfolding rows
 bench-row grade row k h = rw (known-bench grade k) h
 
 pub start-of-admitted : (trace : List ℕ) → grade-known (header-of trace .grade) ≡ true → Admitted (start-of (header-of trace))

@@ -4,7 +4,7 @@ use Prim.Native.Nat.{ℕ}
 use mathlib.Core.Path.{_≡_, refl}
 use mathlib.Core.List.{List, [], _∷_, _++_}
 use lib.ListN.{replicate}
-use Rattle.units.specs.Module.{rows, columns, lanes, module-of}
+use Rattle.units.specs.Module.{module-of}
 use Rattle.units.specs.Time.{clock}
 use Rattle.speed.specs.Table.{grade-133, table-fits}
 use Rattle.layout.specs.declared.Header.{Header}
@@ -32,7 +32,7 @@ number-by grade lent = number-of (first-broken (lent-rules with-133 (header grad
 
 -- "page not 16,384 bytes"; "The page is 512 bytes"
 pub page-by-grade : (number-by 2 16_384 ∷ number-by 2 512 ∷ number-by 3 16_384 ∷ number-by 3 512 ∷ []) ≡ (0 ∷ 7 ∷ 7 ∷ 0 ∷ [])
-unfolding module-of lanes columns table-fits lent-rules
+unfolding module-of table-fits lent-rules
 page-by-grade = refl
 
 -- ── Records ──
@@ -48,7 +48,7 @@ seen (r ∷ rs) = r .zeros ∷ r .masks ∷ seen rs
 
 -- the bench has A12 and eight lanes, the handheld neither
 pub read-by-grade : (seen (records (trace 2)) ++ seen (records (trace 3))) ≡ (0 ∷ 0x03 ∷ 1 ∷ 0xff ∷ [])
-unfolding module-of rows columns lanes column-on has-pins lane-masks header-from record-from records-of
+unfolding module-of column-on has-pins lane-masks header-from record-from records-of
 read-by-grade = refl
 
 -- ── The page ──
@@ -60,5 +60,5 @@ beat-1 = record { clock = clock 0; beat = Stores (record { bank = 0; row = 0; co
 pub stored-by-grade :
     (page-of (trace 2) beat-1 (replicate 20 255) ++ page-of (trace 3) beat-1 (replicate 20 255))
     ≡ ((replicate 8 255 ++ replicate 8 0 ++ replicate 4 255) ++ (replicate 2 255 ++ replicate 2 0 ++ replicate 16 255))
-unfolding module-of rows columns lanes column-on has-pins lane-masks header-from record-from records-of put-lanes stored page-after
+unfolding module-of column-on has-pins lane-masks header-from record-from records-of put-lanes stored page-after
 stored-by-grade = refl

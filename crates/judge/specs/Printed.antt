@@ -4,7 +4,7 @@ use mathlib.Core.Path.{_≡_, refl, ap, _∙_}
 use mathlib.Core.List.{List}
 use lib.ListN.{replicate}
 use Rattle.speed.specs.Table.{grade-133, table-fits}
-use Rattle.units.specs.Module.{columns, lanes, module-of}
+use Rattle.units.specs.Module.{module-of}
 use Rattle.layout.specs.Bytes.{header-from, read-header}
 use Rattle.rules.specs.declared.Setup.{Setup}
 use Rattle.rules.specs.Report.{ran, beat-word, put-line, lines-into}
@@ -29,7 +29,7 @@ trace = bytes (replicate 8 0) (replicate 8 0)
 
 -- the lines do not depend on what the page holds
 by-definition : output trace ≡ text-of (judge with-133 trace (replicate 16384 255))
-unfolding module-of columns lanes output printed answer-of judge-beats whole-call read-header header-from judge whole-rules lent-rules table-fits
+unfolding module-of output printed answer-of judge-beats whole-call read-header header-from judge whole-rules lent-rules table-fits
 by-definition = refl
 
 as-lines : text-of (judge with-133 trace (replicate 16384 255)) ≡ three-lines

@@ -5,24 +5,23 @@ use mathlib.Core.Path.{_≡_, refl, ap}
 use mathlib.Core.List.{List, [], _∷_}
 use lib.ListN.{length, take, drop}
 use mathlib.Core.Bool.{Bool, true, false, cond}
-use native.Mathlib.Nat.{mod-lt}
 use borrow.Author.Tests.{ltb-true}
 use Rattle.units.specs.declared.Module.{Module}
 use Rattle.units.specs.declared.Module.the-variants.{Bench, Handheld}
-use Rattle.units.specs.Module.{rows, columns, lanes}
+use Rattle.units.specs.Module.{rows, columns}
 use Rattle.units.proofs.Both.{both}
-use Rattle.layout.specs.Commands.{column-of, column-on}
+use Rattle.layout.specs.Commands.{column-on}
 use Rattle.layout.specs.Bytes.{bits, has-pins, lane-masks, word-at, header-from, header-of, record-from, record-of, records-of}
 use Rattle.layout.specs.Widths.{Widths, AllWidths, OnModule}
 
 -- a column is one of the module's
 column-fits : (m : Module) (addr : ℕ) → column-on m addr < columns m
-unfolding column-on columns
+unfolding column-on
 column-fits Bench addr = omega arith
 column-fits Handheld addr = omega arith
 
 masks-fit : (m : Module) (masks : ℕ) → lane-masks m masks < 2 ^ 8
-unfolding lane-masks lanes
+unfolding lane-masks
 masks-fit Bench masks = omega arith
 masks-fit Handheld masks = omega arith
 

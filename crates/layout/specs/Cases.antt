@@ -6,7 +6,6 @@ use mathlib.Core.List.{List, [], _∷_}
 use lib.Dec.{eqb, T}
 use Rattle.units.specs.declared.Module.{Module}
 use Rattle.units.specs.declared.Module.the-variants.{Bench, Handheld}
-use Rattle.units.specs.Module.{rows, columns, lanes}
 use Rattle.layout.specs.declared.Record.{Record}
 use Rattle.layout.specs.Commands.{column-on}
 use Rattle.layout.specs.Bytes.{has-pins, lane-masks, record-from}
@@ -25,7 +24,7 @@ pub fields-at-their-places :
       zeros = 0x801;
       dq = 0xfedcba9876543210;
     }
-unfolding record-from has-pins lane-masks column-on rows columns lanes
+unfolding record-from has-pins lane-masks column-on
 fields-at-their-places = refl
 
 -- address, masks, zero bits and data of a record; whether number 10 lets it pass, its column, and its masks
@@ -91,5 +90,5 @@ cases =
     ∷ []
 
 pub cases-right : T (all-right cases)
-unfolding record-from has-pins lane-masks column-on rows columns lanes
+unfolding record-from has-pins lane-masks column-on
 cases-right = tt

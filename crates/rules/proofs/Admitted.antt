@@ -1,7 +1,7 @@
 -- Number 25 passes a state exactly where it is admitted. Assumes nothing.
 use Prim.Native.Nat.{ℕ, zero, suc}
 use mathlib.Core.Path.{_≡_, refl, ap, _∙_}
-use mathlib.Core.Bool.{Bool, true, _&&_, and-true}
+use mathlib.Core.Bool.{true, _&&_, and-true}
 use lib.Dec.{ltb}
 use lib.ListN.{length}
 use mathlib.Core.List.{List, [], _∷_}

@@ -16,7 +16,6 @@ use Rattle.units.specs.declared.Module.{Module}
 use Rattle.units.specs.Module.{bench-columns, rows, module-of}
 use Rattle.units.proofs.Both.{both}
 use Rattle.units.proofs.Sizes.{some-row, some-column}
-use Rattle.speed.specs.declared.SpeedTable.{SpeedTable}
 use Rattle.layout.specs.declared.Record.{Record}
 use Rattle.layout.specs.declared.Command.{Command}
 use Rattle.layout.specs.declared.Command.the-variants.{
@@ -140,10 +139,6 @@ refreshes-fit true n (One y) h g = h
 refreshes-fit true n (Two y) h g = h
 refreshes-fit false n f h g = g
 
-register-fits-after : (x : Bool) (w : ℕ) (n : Clock) (f : Register) → n .0 ≤ clock-max → FitRegister f → FitRegister (cond x (Loaded w n) f)
-register-fits-after true w n f h k = h
-register-fits-after false w n f h k = k
-
 register-on-after : (m : Module) (x : Bool) (w : ℕ) (z : Bool) (n : Clock) (f : Register) → (x ⇒ legal m w && z) ≡ true → RegisterOn m f
     → RegisterOn m (cond x (Loaded w n) f)
 register-on-after m true w z n f g k = both (legal m w) z g .0
@@ -166,10 +161,6 @@ write-length-le w = go (single w)
     go : (x : Bool) → cond x 1 (length-of w) ≤ bench-columns
     go true = omega arith
     go false = length-le w
-
-cond-most : (x : Bool) {a b : Ps} {m : ℕ} → a .0 ≤ m → b .0 ≤ m → cond x a b .0 ≤ m
-cond-most true p q = p
-cond-most false p q = q
 
 -- ── Bursts and banks ──
 
@@ -248,15 +239,22 @@ module _ (u : Setup) (s : State) (r : Record) (g : Entered u (s .core) r) (a : A
         word = word-on m-at (s .core .startup .register) (a .places .core .register);
       }
 
-  startup-fits-after : FitStartUp (startup-after (command r) r (clock-of (s .core) r) (s .core .startup))
+  startup-fits-after : FitStartUp (startup-after (command r) r n-at (s .core .startup))
   unfolding startup-after
   startup-fits-after =
+      let u = s .core .startup in
+      let f = a .core .startup in
       record {
-        allclosed = cond-keeps FitEvent (precharge-all (command r) r) (On (clock-of (s .core) r)) (s .core .startup .allclosed) n-fits (a .core .startup .allclosed);
-        refreshed = refreshes-fit (is (command r) Refresh) (clock-of (s .core) r) (s .core .startup .refreshes) n-fits (a .core .startup .refreshed);
-        register =
-            register-fits-after (is (command r) LoadMode) (r .addr) (clock-of (s .core) r) (s .core .startup .register) n-fits (a .core .startup .register);
+        allclosed = cond-keeps FitEvent (precharge-all (command r) r) (On n-at) (u .allclosed) n-fits (f .allclosed);
+        refreshed = refreshes-fit (is (command r) Refresh) n-at (u .refreshes) n-fits (f .refreshed);
+        register = cond-keeps FitRegister (is (command r) LoadMode) (Loaded (r .addr) n-at) (u .register) n-fits (f .register);
       }
+
+  -- what a cut keeps, and holds of no burst and of the record's own, holds of each burst of the bus that the record leaves
+  bus-left : (P : Burst → Type 0) → P no-burst → ((x : Bool) (b : Burst) → P b → P (cut-if x n-at b))
+      → P (burst-at (word (s .core)) n-at (r .addr) (r .column) (r .ba) (own-row s r)) → EachBurst P (s .core .bus)
+      → EachBurst P (bus-after (command r) r n-at (word (s .core)) (own-row s r) (s .core .bus))
+  bus-left P none cut new = bus-keeps P n-at none cut (command r) r (word (s .core)) (own-row s r) (s .core .bus) new
 
   core-fits-after : FitCore (core-after (s .core) r (own-row s r))
   unfolding core-after core-from
@@ -265,7 +263,7 @@ module _ (u : Setup) (s : State) (r : Record) (g : Entered u (s .core) r) (a : A
         number = omega (arith, g .number);
         last = n-fits;
         startup = startup-fits-after;
-        bus = bus-keeps FitBurst n-at no-burst-fits (cut-fits n-at n-fits) (command r) r (word (s .core)) (own-row s r) (s .core .bus) new-fits (a .core .bus);
+        bus = bus-left FitBurst no-burst-fits (cut-fits n-at n-fits) new-fits (a .core .bus);
       }
 
   core-on-after : CoreOn m-at (core-after (s .core) r (own-row s r))
@@ -277,7 +275,7 @@ module _ (u : Setup) (s : State) (r : Record) (g : Entered u (s .core) r) (a : A
         register =
             register-on-after m-at (is (command r) LoadMode) (r .addr) (eqb (r .ba) 0) n-at (s .core .startup .register) (mode-kept u s r p)
             (a .places .core .register);
-        bus = bus-keeps (BurstOn m-at) n-at (no-burst-on m-at) (cut-on m-at n-at) (command r) r (word (s .core)) (own-row s r) (s .core .bus) new-on (a .places .core .bus);
+        bus = bus-left (BurstOn m-at) (no-burst-on m-at) (cut-on m-at n-at) new-on (a .places .core .bus);
       }
 
   -- a clock within 4,096 of the last possible lasts less than 2^57
@@ -285,17 +283,21 @@ module _ (u : Setup) (s : State) (r : Record) (g : Entered u (s .core) r) (a : A
   ps-fits x h = le-trans (mul-le-mul h (g .period)) (omega arith)
 
   now-fits : now (s .core) r .0 ≤ 2 ^ 57
-  now-fits = ps-fits (clock-of (s .core) r .0) (omega (arith, n-fits))
+  now-fits = ps-fits (n-at .0) (omega (arith, n-fits))
 
-  end-fits : (k : Command) → burst-end k (u .table) (s .core .period) (word (s .core)) (clock-of (s .core) r) .0 ≤ 2 ^ 57 + 200_000_000
+  -- the end of a burst that the record begins
+  abbrev end-at : Command → Ps
+  end-at k = burst-end k (u .table) (s .core .period) (word (s .core)) n-at
+
+  end-fits : (k : Command) → end-at k .0 ≤ 2 ^ 57 + 200_000_000
   end-fits k =
-      let n = clock-of (s .core) r .0 in
+      let n = n-at .0 in
       let w = word (s .core) in
-      cond-most (is k Write) (omega (arith, ps-fits (n + write-length w) (omega (arith, n-fits, write-length-le w)), g .addition, g .period))
+      cond-keeps (λ (x : Ps). x .0 ≤ 2 ^ 57 + 200_000_000) (is k Write) _ _
+      (omega (arith, ps-fits (n + write-length w) (omega (arith, n-fits, write-length-le w)), g .addition, g .period))
       (omega (arith, ps-fits (n + length-of w) (omega (arith, n-fits, length-le w))))
 
-  auto-fits : (k : Command) (x : Status) → FitStatus x
-      → FitStatus (auto-closed (u .table) (s .core .period) (burst-end k (u .table) (s .core .period) (word (s .core)) (clock-of (s .core) r)) x)
+  auto-fits : (k : Command) (x : Status) → FitStatus x → FitStatus (auto-closed (u .table) (s .core .period) (end-at k) x)
   auto-fits k NotStarted h = tt
   auto-fits k (Open row n) h = omega (arith, end-fits k, ps-fits (n .0) (omega arith), g .trasmin)
   auto-fits k (Closed x) h = h
@@ -308,7 +310,7 @@ module _ (u : Setup) (s : State) (r : Record) (g : Entered u (s .core) r) (a : A
 
   -- the bank with number i after this command
   abbrev after : Command → ℕ → Bank → Bank
-  after k = bank-after k (u .table) (s .core .period) (burst-end k (u .table) (s .core .period) (word (s .core)) n-at) (begun (s .core .startup)) r n-at (now (s .core) r)
+  after k = bank-after k (u .table) (s .core .period) (end-at k) (begun (s .core .startup)) r n-at (now (s .core) r)
 
   bank-fits-after : (k : Command) (i : ℕ) (b : Bank) → FitBank b → FitBank (after k i b)
   unfolding bank-after
@@ -339,12 +341,12 @@ module _ (u : Setup) (s : State) (r : Record) (g : Entered u (s .core) r) (a : A
   marked-fits x b h = record { status = h .status; active = h .active; stored = cond-keeps FitEvent x (On n-at) (b .stored) n-fits (h .stored) }
 
   -- what a command and a mark keep holds of each bank that the record leaves
-  banks-keep : (P : Bank → Type 0) → ((i : ℕ) (b : Bank) → P b → P (after (command r) i b)) → ((x : Bool) (b : Bank) → P b → P (marked x n-at b))
-      → Each P (s .banks) → Each P (next u s r .banks)
+  banks-keep : (P : Bank → Type 0) → ((i : ℕ) (b : Bank) → P b → P (after (command r) i b))
+      → ((x : Bool) (b : Bank) → P b → P (marked x n-at b)) → Each P (s .banks) → Each P (next u s r .banks)
   unfolding next banks-after mark-banks commanded
   banks-keep P moved mark h =
-      banks-each P (λ i b. marked (stores-in (own-beat s r) i) n-at b) (λ i b. mark (stores-in (own-beat s r) i) b) 0 (each-bank (after (command r)) 0 (s .banks))
-      (banks-each P (after (command r)) moved 0 (s .banks) h)
+      banks-each P (λ i b. marked (stores-in (own-beat s r) i) n-at b) (λ i b. mark (stores-in (own-beat s r) i) b) 0
+      (each-bank (after (command r)) 0 (s .banks)) (banks-each P (after (command r)) moved 0 (s .banks) h)
 
   -- THE STATE BESIDE A TAKEN RECORD IS ADMITTED
   pub stays : Admitted (next u s r)

@@ -5,7 +5,7 @@ use mathlib.Core.Bool.{_&&_}
 use mathlib.Core.List.{List, [], _∷_, _++_}
 use lib.Dec.{T}
 use lib.ListN.{replicate}
-use Rattle.units.specs.Module.{lanes, module-of}
+use Rattle.units.specs.Module.{module-of}
 use Rattle.units.specs.Time.{time}
 use Rattle.speed.specs.Table.{grade-133}
 use Rattle.layout.specs.declared.Record.{Record}
@@ -33,7 +33,7 @@ use Rattle.rules.specs.After.{
   next,
 }
 use Rattle.rules.specs.Run.{Run, run}
-use Rattle.rules.specs.Report.{put-line, fold}
+use Rattle.rules.specs.Report.{fold}
 use Rattle.rules.specs.Cases.{write, up, up-active, same-run}
 
 abbrev with-133 : Setup
@@ -63,10 +63,10 @@ page-by grade = fold with-133 (watching grade) (up-active 0x30 (write 2 1 3 ∷ 
 
 -- "Column c, lane i is page byte 8c+i"
 pub bench-page : page-by 2 ≡ (replicate 24 255 ++ replicate 8 0 ++ replicate 8 255)
-unfolding lanes put-lanes stored fold module-of length-of beat-column has-beat write-beat read-beat finished masks-on masks-after reads-from bus-after beat-on bursts-finished driven bus-clear allowed banks-found of-closing of-any of-active of-access of-precharged of-precharge of-idle events minima every-rules place-rules minimum-rules mode-rules bus-rules command-rules rules ask startup-after beat core-from core-after bank-after commanded mark-banks banks-after next run
+unfolding put-lanes stored fold module-of length-of beat-column has-beat write-beat read-beat finished masks-on masks-after reads-from bus-after beat-on bursts-finished driven bus-clear allowed banks-found of-closing of-any of-active of-access of-precharged of-precharge of-idle events minima every-rules place-rules minimum-rules mode-rules bus-rules command-rules rules ask startup-after beat core-from core-after bank-after commanded mark-banks banks-after next run
 bench-page = refl
 
 -- "256 columns of two"
 pub handheld-page : page-by 3 ≡ (replicate 6 255 ++ replicate 2 0 ++ replicate 32 255)
-unfolding lanes put-lanes stored fold module-of length-of beat-column has-beat write-beat read-beat finished masks-on masks-after reads-from bus-after beat-on bursts-finished driven bus-clear allowed banks-found of-closing of-any of-active of-access of-precharged of-precharge of-idle events minima every-rules place-rules minimum-rules mode-rules bus-rules command-rules rules ask startup-after beat core-from core-after bank-after commanded mark-banks banks-after next run
+unfolding put-lanes stored fold module-of length-of beat-column has-beat write-beat read-beat finished masks-on masks-after reads-from bus-after beat-on bursts-finished driven bus-clear allowed banks-found of-closing of-any of-active of-access of-precharged of-precharge of-idle events minima every-rules place-rules minimum-rules mode-rules bus-rules command-rules rules ask startup-after beat core-from core-after bank-after commanded mark-banks banks-after next run
 handheld-page = refl

@@ -1,11 +1,10 @@
 -- The two modules by their data sheets, and the grades of each. Assumes nothing.
 use Prim.Native.Nat.{ℕ, _*_, _^_}
 use mathlib.Core.Path.{_≡_, refl}
-use mathlib.Core.Bool.{Bool}
 use mathlib.Core.List.{List, [], _∷_}
 use Rattle.units.specs.declared.Module.{Module}
 use Rattle.units.specs.declared.Module.the-variants.{Bench, Handheld}
-use Rattle.units.specs.Module.{banks, rows, columns, lanes, has-full-page, page-bytes, module-of}
+use Rattle.units.specs.Module.{banks, rows, columns, lanes, page-bytes, module-of}
 
 abbrev sizes : Module → List ℕ
 sizes m = rows m ∷ columns m ∷ lanes m ∷ page-bytes m ∷ []
@@ -16,20 +15,16 @@ bytes m = banks * rows m * page-bytes m
 
 -- 003, table 2: 8K rows (A0 to A12), 2K columns (A0 to A9, A11), x64, 512MB; and 01's page
 pub bench-sizes : sizes Bench ≡ (8_192 ∷ 2_048 ∷ 8 ∷ 16_384 ∷ [])
-unfolding rows columns lanes
 bench-sizes = refl
 
 pub bench-bytes : bytes Bench ≡ 512 * 2 ^ 20
-unfolding rows columns lanes
 bench-bytes = refl
 
 -- 004, table 1: 4K rows (A0 to A11), 256 columns (A0 to A7), x16, "67,108,864 bits"; and 02's page
 pub handheld-sizes : sizes Handheld ≡ (4_096 ∷ 256 ∷ 2 ∷ 512 ∷ [])
-unfolding rows columns lanes
 handheld-sizes = refl
 
 pub handheld-bits : 8 * bytes Handheld ≡ 67_108_864
-unfolding rows columns lanes
 handheld-bits = refl
 
 -- 01: grades 1 and 2 are the bench's; 02, K9: 3 and 4 are the handheld's

@@ -28,13 +28,13 @@ cast-at c = omega arith
 
 mul-at : tie.Need-mul-at Inv-loop μ-loop
 mul-at c =
-    let few : c .before .lanes .result ≤ 8 = rw (c .before .lanes .ensures) (lanes-fit _) in
+    let few : c .before .lanes .result ≤ 8 = rw (c .before .lanes .ensures) (lanes-fit (c .before .before .before .args .m)) in
     let narrow : c .before .before .before .args .c .column ≤ 65535 = search needs in
     omega (arith, mul-le-mul few narrow)
 
 loop-holds : tie.Need-loop-holds Inv-loop μ-loop
 loop-holds c =
-    let few : c .before .lanes .result ≤ 8 = rw (c .before .lanes .ensures) (lanes-fit _) in
+    let few : c .before .lanes .result ≤ 8 = rw (c .before .lanes .ensures) (lanes-fit (c .before .before .before .args .m)) in
     let narrow : c .before .before .before .args .c .column ≤ 65535 = search needs in
     (omega (arith, few, mul-le-mul few narrow), refl, refl)
 
