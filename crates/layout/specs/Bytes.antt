@@ -47,12 +47,12 @@ header-of bytes = header-from (word-at bytes 0) (word-at bytes 8)
 unfoldable pub has-pins : Module → ℕ → ℕ → ℕ → Bool
 has-pins m addr masks dq = ltb addr (rows m) && ltb masks (2 ^ lanes m) && ltb dq (256 ^ lanes m)
 
--- the masks with those of absent lanes HIGH: a lane that the module has not is masked on each clock
+-- the masks, with those of absent lanes HIGH: a lane that the module does not have is masked on each clock
 unfoldable pub lane-masks : Module → ℕ → ℕ
 lane-masks m masks = masks % 2 ^ lanes m + (256 - 2 ^ lanes m)
 
 -- "Record, 16 bytes", as two words: skipped 24, CKE 1, CS# RAS# CAS# WE# 4, BA 2, A12 to A0 13, DQMB7 to DQMB0 8, zeros 12; DQ63 to DQ0.
--- A bit that the module has no pin for counts as a zero bit
+-- A bit that the module has no pin for counts as a zero bit.
 unfoldable pub record-from : Module → ℕ → ℕ → Record
 record-from m first second =
     record {

@@ -70,7 +70,7 @@ cases =
     ∷ reads Bench 0x1400 0xff 0 0 0xff
     ∷ set-in Bench 0 0xff 0x001 0
     ∷ set-in Bench 0 0xff 0x800 0
-    -- the handheld: A11 to A0, DQMB1 and DQMB0, DQ15 to DQ0; the masks of the lanes that it has not read HIGH
+    -- the handheld has A11 to A0, DQMB1 and DQMB0, DQ15 to DQ0; the masks of its absent lanes read HIGH
     ∷ reads Handheld 0xfff 0x03 0xffff 255 0xff
     ∷ reads Handheld 0 0 0 0 0xfc
     ∷ reads Handheld 0 0x01 0 0 0xfd

@@ -99,7 +99,7 @@ fn has_pins(m: Module, addr: u16, masks: u8, dq: u64) -> bool
     }
 }
 
-// A lane that the module has not is masked on each clock.
+// The masks, with those of absent lanes HIGH: a lane that the module does not have is masked on each clock.
 fn lane_masks(m: Module, masks: u8) -> u8
     ensures { λ r. ⌜ r ≡ lane-masks m masks ⌝ }
 {
@@ -109,7 +109,7 @@ fn lane_masks(m: Module, masks: u8) -> u8
     }
 }
 
-// The zero bits, with one more where a bit is set that the module has no pin for.
+// The zero bits, and one more if a bit is set that the module has no pin for.
 fn zeros_with(zeros: u16, pins: bool) -> u16
     requires { ⌜ zeros < 4096 ⌝ }
     ensures { λ r. ⌜ r ≡ (zeros + cond pins 0 1) ⌝ }
@@ -118,7 +118,7 @@ fn zeros_with(zeros: u16, pins: bool) -> u16
 }
 
 // A record out of its two words: skipped clocks 24 bits, CKE 1, CS# RAS# CAS# WE# 4, BA 2, A12 to A0 13, DQMB7 to
-// DQMB0 8, zeros 12; then DQ63 to DQ0. What the module has no pin for is told here and nowhere later.
+// DQMB0 8, zeros 12; then DQ63 to DQ0. Pins that the module lacks are dealt with here and nowhere later.
 pub fn record_from(m: Module, first: u64, second: u64) -> Record
     ensures { λ r. ⌜ r ≡ record-from m first second ⌝ }
 {

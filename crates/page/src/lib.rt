@@ -21,7 +21,7 @@ pub fn put_lane(at: usize, low: u8, dq: u64, page: &mut [u8])
 }
 
 // The lanes of one column: "Lane i is DQ(8i) to DQ(8i+7). Column c, lane i is page byte 8c+i." With two lanes it is 2c+i.
-// The loop counts by the module and is unrolled all the same: where the judge calls it, the grade has been tested.
+// The count is the module's. The compiler still unrolls the loop: the judge has tested the grade before it comes here.
 pub fn put_cells(m: Module, c: Cells, dq: u64, page: &mut [u8])
     ensures { λ _. ⌜ now (page .exit) ≡ put-cells m c dq (now (page .entry)) ⌝ }
 {
