@@ -2,7 +2,6 @@
 use Prim.Native.Nat.{ℕ}
 use mathlib.Core.Path.{_≡_, refl, ap, sym, _∙_}
 use mathlib.Core.List.{List, [], _∷_}
-use Rattle.units.specs.declared.Module.{Module}
 use Rattle.layout.specs.declared.Record.{Record}
 use Rattle.rules.specs.declared.State.{State}
 use Rattle.rules.specs.declared.Setup.{Setup}
@@ -20,11 +19,6 @@ use Rattle.device.proofs.Folds.{fold-taken, fold-refused}
 abbrev pub from-run : State → List Record → List ℕ → List ℕ → Run → Left
 from-run s rs page beats v =
     left (ran (v .verdict) (v .reported)) (page-after (state-module s) (s .core .bank) (s .core .row) rs (v .lines) page) (lines-into (s .core .number) (v .lines) beats)
-
-no-lines : (m : Module) (bank row : ℕ) (rs : List Record) (page : List ℕ) → page-after m bank row rs [] page ≡ page
-unfolding page-after
-no-lines m bank row [] page = refl
-no-lines m bank row (r ∷ rs) page = refl
 
 -- one record's line, and what follows it
 one-line : (u : Setup) (s : State) (r : Record) (rs : List Record) (page beats : List ℕ) (v : Run)

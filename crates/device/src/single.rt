@@ -1,8 +1,7 @@
 // The one-record call: what it tries before the record is looked at, and its answer.
 ghost use mathlib.Core.Path.{_≡_};
 ghost use Rattle.rules.specs.Numbers.{first-broken, number-of, interval-of};
-ghost use Rattle.rules.specs.OneRecord.{state-rules, answer-of, stepped, step};
-ghost use Rattle.device.specs.Entry.{lent-rules};
+ghost use Rattle.rules.specs.OneRecord.{fit-rules, state-rules, answer-of, stepped, step};
 use crate::Device;
 use crate::Outcome;
 use crate::Turn;
@@ -17,8 +16,8 @@ use rules::Verdict;
 use units::Module;
 
 // 6, 7 and 25.
-fn lent_verdict(u: Setup, s: State, lent: usize) -> Verdict
-    ensures { λ x. ⌜ x ≡ first-broken (lent-rules u s lent) ⌝ }
+fn fit_verdict(u: Setup, s: State, lent: usize) -> Verdict
+    ensures { λ x. ⌜ x ≡ first-broken (fit-rules u s lent) ⌝ }
 {
     let core = s.core;
     let t = u.table;
@@ -42,7 +41,7 @@ pub fn state_verdict(u: Setup, s: State, lent: usize) -> Verdict
     let core = s.core;
     if rules::period_fits(core.period) {
         if rules::grade_known(core.grade) {
-            return lent_verdict(u, s, lent);
+            return fit_verdict(u, s, lent);
         }
         return Verdict::refused(4);
     }

@@ -6,22 +6,19 @@ use mathlib.Core.List.{List, [], _∷_, _++_}
 use lib.ListN.{replicate}
 use Rattle.units.specs.Module.{module-of}
 use Rattle.units.specs.Time.{clock}
-use Rattle.speed.specs.Table.{grade-133, table-fits}
+use Rattle.speed.specs.Table.{table-fits}
 use Rattle.layout.specs.declared.Header.{Header}
 use Rattle.layout.specs.declared.Record.{Record}
 use Rattle.layout.specs.Commands.{column-on}
 use Rattle.layout.specs.Bytes.{has-pins, lane-masks, header-from, record-from, records-of}
 use Rattle.bursts.specs.declared.Beat.the-variants.{Stores}
 use Rattle.page.specs.Store.{put-lanes, stored}
-use Rattle.rules.specs.declared.Setup.{Setup}
+use Rattle.rules.specs.Cases.{with-133}
 use Rattle.rules.specs.Numbers.{number-of, first-broken}
 use Rattle.rules.specs.Run.{Line, page-after}
 use Rattle.hawsehole.specs.Trace.{lent-rules, records, page-of}
 
 -- ── Number 7 ──
-
-abbrev with-133 : Setup
-with-133 = record { table = grade-133 }
 
 abbrev header : ℕ → Header
 header grade = record { version = 1; period = 7500; count = 0; grade = grade; bank = 0; row = 0; zeros = 0 }

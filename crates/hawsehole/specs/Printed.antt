@@ -4,7 +4,7 @@ use mathlib.Core.Path.{_≡_, refl}
 use mathlib.Core.List.{List, [], _∷_, _++_}
 use lib.ListN.{replicate}
 use Rattle.units.specs.Time.{clock}
-use Rattle.speed.specs.Table.{grade-133, table-fits}
+use Rattle.speed.specs.Table.{table-fits}
 use Rattle.units.specs.Module.{module-of}
 use Rattle.layout.specs.Commands.{column-on}
 use Rattle.layout.specs.Bytes.{has-pins, lane-masks, header-from, record-from, records-of}
@@ -15,8 +15,8 @@ use Rattle.bursts.specs.declared.Beat.the-variants.{Quiet, Stores}
 use Rattle.bursts.specs.Burst.{has-beat, write-beat, read-beat, finished}
 use Rattle.bursts.specs.Bus.{masks-on, masks-after, reads-from, bus-after, beat-on, bursts-finished, driven, bus-clear}
 use Rattle.page.specs.Store.{put-lanes, stored}
-use Rattle.rules.specs.declared.Setup.{Setup}
 use Rattle.rules.specs.declared.Verdict.the-variants.{Taken}
+use Rattle.rules.specs.Cases.{with-133}
 use Rattle.rules.specs.StartUp.{allowed}
 use Rattle.rules.specs.Banks.{banks-found}
 use Rattle.rules.specs.Minima.{of-closing, of-any, of-active, of-access, of-precharged, of-precharge, of-idle, events, minima}
@@ -87,9 +87,6 @@ page-with fourth fifth = replicate 32 255 ++ fourth ++ replicate 4 255 ++ fifth 
 
 abbrev clean : List ℕ → Judged
 clean page = record { verdict = Taken; reported = 8; lines = printed-lines; page = page }
-
-abbrev with-133 : Setup
-with-133 = record { table = grade-133 }
 
 -- THE PRINTED CASE: "DQ bits not named are 0", over a page of FF so that each stored byte shows
 pub printed : judge with-133 (bytes zeros zeros) (replicate 16384 255) ≡ clean (page-with (replicate 4 0) (replicate 8 0))

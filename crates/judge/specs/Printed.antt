@@ -3,10 +3,10 @@ use Prim.Native.Nat.{ℕ}
 use mathlib.Core.Path.{_≡_, refl, ap, _∙_}
 use mathlib.Core.List.{List}
 use lib.ListN.{replicate}
-use Rattle.speed.specs.Table.{grade-133, table-fits}
+use Rattle.speed.specs.Table.{table-fits}
 use Rattle.units.specs.Module.{module-of}
 use Rattle.layout.specs.Bytes.{header-from, read-header}
-use Rattle.rules.specs.declared.Setup.{Setup}
+use Rattle.rules.specs.Cases.{with-133}
 use Rattle.rules.specs.Report.{ran, beat-word, put-line, lines-into}
 use Rattle.hawsehole.specs.Trace.{Judged, judge, whole-rules, lent-rules}
 use Rattle.hawsehole.specs.Numbers.{answer-word, whole-call, judge-beats}
@@ -19,9 +19,6 @@ use Rattle.judge.specs.Output.{answer-of, printed, output}
 -- what is printed of a judged trace
 abbrev text-of : Judged → List ℕ
 text-of j = report (lines-into 0 (j .lines) (replicate 8190 0)) (answer-word (ran (j .verdict) (j .reported)))
-
-abbrev with-133 : Setup
-with-133 = record { table = grade-133 }
 
 -- "DQ bits not named are 0"
 abbrev trace : List ℕ

@@ -18,6 +18,7 @@ use Rattle.bursts.specs.declared.Beat.{Beat}
 use Rattle.bursts.specs.declared.Beat.the-variants.{Quiet, Stores, Drives}
 use Rattle.bursts.specs.Burst.{has-beat, write-beat, read-beat, finished}
 use Rattle.bursts.specs.Bus.{masks-on, masks-after, reads-from, bus-after, beat-on, bursts-finished, driven, bus-clear}
+use Rattle.rules.specs.declared.Setup.{Setup}
 use Rattle.rules.specs.Numbers.{number-of, interval-of, tRCD, tRP, tRFC, tWR}
 use Rattle.rules.specs.Parts.{start}
 use Rattle.rules.specs.StartUp.{allowed}
@@ -119,6 +120,10 @@ of-beat f n (Drives c) l = f n c ∷ l
 abbrev pub of-lines : (ℕ → Cells → ℕ) → List Line → List ℕ
 of-lines f [] = []
 of-lines f (l ∷ ls) = of-beat f (l .clock .0) (l .beat) (of-lines f ls)
+
+-- a call with the table of grade -133
+abbrev pub with-133 : Setup
+with-133 = record { table = grade-133 }
 
 abbrev pub run-of : SpeedTable → ℕ → List Record → Run
 run-of t period rs = run (record { table = t }) (start (time period) 2 0 0) rs

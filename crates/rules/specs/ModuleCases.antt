@@ -7,7 +7,6 @@ use lib.Dec.{T}
 use lib.ListN.{replicate}
 use Rattle.units.specs.Module.{module-of}
 use Rattle.units.specs.Time.{time}
-use Rattle.speed.specs.Table.{grade-133}
 use Rattle.layout.specs.declared.Record.{Record}
 use Rattle.mode.specs.Word.{length-of}
 use Rattle.mode.specs.Order.{beat-column}
@@ -15,7 +14,6 @@ use Rattle.bursts.specs.Burst.{has-beat, write-beat, read-beat, finished}
 use Rattle.bursts.specs.Bus.{masks-on, masks-after, reads-from, bus-after, beat-on, bursts-finished, driven, bus-clear}
 use Rattle.page.specs.Store.{put-lanes, stored}
 use Rattle.rules.specs.declared.State.{State}
-use Rattle.rules.specs.declared.Setup.{Setup}
 use Rattle.rules.specs.Parts.{start}
 use Rattle.rules.specs.StartUp.{allowed}
 use Rattle.rules.specs.Banks.{banks-found}
@@ -34,10 +32,7 @@ use Rattle.rules.specs.After.{
 }
 use Rattle.rules.specs.Run.{Run, run}
 use Rattle.rules.specs.Report.{fold}
-use Rattle.rules.specs.Cases.{write, up, up-active, same-run}
-
-abbrev with-133 : Setup
-with-133 = record { table = grade-133 }
+use Rattle.rules.specs.Cases.{write, up, up-active, same-run, with-133}
 
 -- before the first record of a trace of this grade, which watches row 7 of bank 1
 abbrev watching : ℕ → State

@@ -29,15 +29,20 @@ period-fits p = leb 1_000 (p .0) && leb (p .0) 65_535
 abbrev pub grade-known : ℕ → Bool
 grade-known g = eqb g 1 || eqb g 2
 
+-- 6, 7 and 25: table, page and state are what they must be
+abbrev pub fit-rules : Setup → State → ℕ → List Rule
+fit-rules u s lent =
+    rule 6 0 (table-fits (u .table))
+    ∷ rule 7 0 (eqb lent (page-bytes (state-module s)))
+    ∷ rule 25 0 (fits s)
+    ∷ []
+
 -- 3, 4, 6, 7 and 25, of a state and a page of so many bytes: "4 (also for the state's grade)" (02, K9)
 unfoldable pub state-rules : Setup → State → ℕ → List Rule
 state-rules u s lent =
     rule 3 0 (period-fits (s .core .period))
     ∷ rule 4 0 (grade-known (s .core .grade))
-    ∷ rule 6 0 (table-fits (u .table))
-    ∷ rule 7 0 (eqb lent (page-bytes (state-module s)))
-    ∷ rule 25 0 (fits s)
-    ∷ []
+    ∷ fit-rules u s lent
 
 -- "A record not 16 bytes long gives 1, then 3, 6, 7, 25", with 4 at its place: what is tried before the record is looked at
 unfoldable pub entry-rules : Setup → State → List ℕ → List ℕ → List Rule

@@ -5,7 +5,7 @@ use Rattle.device.proofs.single.state_verdict.Statement.{statement}
 use Rattle.device.proofs.single.state_verdict.Tie as tie
 use Rattle.device.proofs.single.state_verdict.Reads as reads
 use Rattle.device.proofs.single.state_verdict.Lts as lts
-use Rattle.device.proofs.single.lent_verdict.Reads as lent-verdict-reads
+use Rattle.device.proofs.single.fit_verdict.Reads as fit-verdict-reads
 use Rattle.rules.proofs.Verdict.refused.Reads as refused-reads
 use Rattle.rules.proofs.grade_known.Reads as grade-known-reads
 use Rattle.rules.proofs.period_fits.Reads as period-fits-reads
@@ -16,12 +16,12 @@ period-fits-requires c κs = search needs
 grade-known-requires : tie.Need-grade-known-requires
 grade-known-requires c κs = search needs
 
-lent-verdict-requires : tie.Need-lent-verdict-requires
-lent-verdict-requires c κs = search needs
+fit-verdict-requires : tie.Need-fit-verdict-requires
+fit-verdict-requires c κs = search needs
 
 returns : tie.Need-returns
 unfolding state-rules
-returns c = rw (← c .before .before .before .before .period-fits .ensures, c .before .before .before .if1 .taken, ← c .before .before .grade-known .ensures, c .before .if2 .taken) (c .lent-verdict .ensures)
+returns c = rw (← c .before .before .before .before .period-fits .ensures, c .before .before .before .if1 .taken, ← c .before .before .grade-known .ensures, c .before .if2 .taken) (c .fit-verdict .ensures)
 
 refused-requires : tie.Need-refused-requires
 refused-requires c κs = search needs
@@ -43,7 +43,7 @@ state-verdict-spec =
     (tie.spec
     period-fits-requires
     grade-known-requires
-    lent-verdict-requires
+    fit-verdict-requires
     returns
     refused-requires
     returns-2

@@ -1,10 +1,10 @@
--- `single::lent_verdict` meets its contract: each return by the tests that led there. Assumes nothing.
+-- `single::fit_verdict` meets its contract: each return by the tests that led there. Assumes nothing.
 use borrow.Author.Tests.{eq-eqb, ne-eqb}
 use borrow.Author.Needs.{needs}
-use Rattle.device.proofs.single.lent_verdict.Statement.{statement}
-use Rattle.device.proofs.single.lent_verdict.Tie as tie
-use Rattle.device.proofs.single.lent_verdict.Reads as reads
-use Rattle.device.proofs.single.lent_verdict.Lts as lts
+use Rattle.device.proofs.single.fit_verdict.Statement.{statement}
+use Rattle.device.proofs.single.fit_verdict.Tie as tie
+use Rattle.device.proofs.single.fit_verdict.Reads as reads
+use Rattle.device.proofs.single.fit_verdict.Lts as lts
 use Rattle.parts.proofs.admitting.fits.Reads as admitting-fits-reads
 use Rattle.rules.proofs.Verdict.refused.Reads as refused-reads
 use Rattle.speed.proofs.SpeedTable.fits.Reads as SpeedTable-fits-reads
@@ -44,8 +44,8 @@ refused-requires-3 c κs = search needs
 returns-4 : tie.Need-returns-4
 returns-4 c = rw (c .refused3 .ensures, ← c .before .before .fits2 .ensures, c .before .if1 .left)
 
-pub lent-verdict-spec : {M : Type 1} → statement M
-lent-verdict-spec =
+pub fit-verdict-spec : {M : Type 1} → statement M
+fit-verdict-spec =
     tie.close
     (tie.spec
     of-grade-requires
