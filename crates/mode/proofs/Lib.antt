@@ -1,4 +1,2 @@
 pub mod Shown
-pub mod Every
 pub mod Length
-pub mod Printed

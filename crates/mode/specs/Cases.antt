@@ -1,8 +1,8 @@
--- P6 and P7 of document 01 by columns alone, and how many mode words are legal. Assumes nothing.
+-- 003 table 6, P6 and P7 of document 01 by columns alone, and how many mode words are legal. Assumes nothing.
 use Prim.Native.Nat.{ℕ, zero, suc, _+_}
 use mathlib.Core.Path.{_≡_, refl}
 use mathlib.Core.Bool.{Bool, cond}
-use mathlib.Core.List.{List, [], _∷_}
+use mathlib.Core.List.{List, [], _∷_, _++_}
 use Rattle.units.specs.declared.Module.{Module}
 use Rattle.units.specs.declared.Module.the-variants.{Bench, Handheld}
 use Rattle.mode.specs.Word.{length-of, legal}
@@ -12,6 +12,38 @@ use Rattle.mode.specs.Order.{beat-column}
 abbrev columns-from : ℕ → ℕ → ℕ → ℕ → List ℕ
 columns-from w c i zero = []
 columns-from w c i (suc k) = beat-column w c i ∷ columns-from w c (suc i) k
+
+-- 003 table 6 as printed, with length 1 by its note 7. For each length and starting column: Type = Sequential, Type = Interleaved
+abbrev table-6 : List (List ℕ × List ℕ)
+table-6 =
+    (0 ∷ [], 0 ∷ [])
+    ∷ (0 ∷ 1 ∷ [], 0 ∷ 1 ∷ [])
+    ∷ (1 ∷ 0 ∷ [], 1 ∷ 0 ∷ [])
+    ∷ (0 ∷ 1 ∷ 2 ∷ 3 ∷ [], 0 ∷ 1 ∷ 2 ∷ 3 ∷ [])
+    ∷ (1 ∷ 2 ∷ 3 ∷ 0 ∷ [], 1 ∷ 0 ∷ 3 ∷ 2 ∷ [])
+    ∷ (2 ∷ 3 ∷ 0 ∷ 1 ∷ [], 2 ∷ 3 ∷ 0 ∷ 1 ∷ [])
+    ∷ (3 ∷ 0 ∷ 1 ∷ 2 ∷ [], 3 ∷ 2 ∷ 1 ∷ 0 ∷ [])
+    ∷ (0 ∷ 1 ∷ 2 ∷ 3 ∷ 4 ∷ 5 ∷ 6 ∷ 7 ∷ [], 0 ∷ 1 ∷ 2 ∷ 3 ∷ 4 ∷ 5 ∷ 6 ∷ 7 ∷ [])
+    ∷ (1 ∷ 2 ∷ 3 ∷ 4 ∷ 5 ∷ 6 ∷ 7 ∷ 0 ∷ [], 1 ∷ 0 ∷ 3 ∷ 2 ∷ 5 ∷ 4 ∷ 7 ∷ 6 ∷ [])
+    ∷ (2 ∷ 3 ∷ 4 ∷ 5 ∷ 6 ∷ 7 ∷ 0 ∷ 1 ∷ [], 2 ∷ 3 ∷ 0 ∷ 1 ∷ 6 ∷ 7 ∷ 4 ∷ 5 ∷ [])
+    ∷ (3 ∷ 4 ∷ 5 ∷ 6 ∷ 7 ∷ 0 ∷ 1 ∷ 2 ∷ [], 3 ∷ 2 ∷ 1 ∷ 0 ∷ 7 ∷ 6 ∷ 5 ∷ 4 ∷ [])
+    ∷ (4 ∷ 5 ∷ 6 ∷ 7 ∷ 0 ∷ 1 ∷ 2 ∷ 3 ∷ [], 4 ∷ 5 ∷ 6 ∷ 7 ∷ 0 ∷ 1 ∷ 2 ∷ 3 ∷ [])
+    ∷ (5 ∷ 6 ∷ 7 ∷ 0 ∷ 1 ∷ 2 ∷ 3 ∷ 4 ∷ [], 5 ∷ 4 ∷ 7 ∷ 6 ∷ 1 ∷ 0 ∷ 3 ∷ 2 ∷ [])
+    ∷ (6 ∷ 7 ∷ 0 ∷ 1 ∷ 2 ∷ 3 ∷ 4 ∷ 5 ∷ [], 6 ∷ 7 ∷ 4 ∷ 5 ∷ 2 ∷ 3 ∷ 0 ∷ 1 ∷ [])
+    ∷ (7 ∷ 0 ∷ 1 ∷ 2 ∷ 3 ∷ 4 ∷ 5 ∷ 6 ∷ [], 7 ∷ 6 ∷ 5 ∷ 4 ∷ 3 ∷ 2 ∷ 1 ∷ 0 ∷ [])
+    ∷ []
+
+-- the same rows by the rule, for the length of M2 to M0 = k, from starting column s on
+abbrev rows-from : ℕ → ℕ → ℕ → List (List ℕ × List ℕ)
+rows-from k s zero = []
+rows-from k s (suc n) = (columns-from k s 0 (length-of k), columns-from (8 + k) s 0 (length-of k)) ∷ rows-from k (suc s) n
+
+abbrev rows : ℕ → List (List ℕ × List ℕ)
+rows k = rows-from k 0 (length-of k)
+
+pub printed-orders : rows 0 ++ rows 1 ++ rows 2 ++ rows 3 ≡ table-6
+unfolding length-of beat-column
+printed-orders = refl
 
 -- P6: "Length 8 interleaved from column 13"
 pub interleaved-8-from-13 : columns-from 0x3b 13 0 8 ≡ (13 ∷ 12 ∷ 15 ∷ 14 ∷ 9 ∷ 8 ∷ 11 ∷ 10 ∷ [])

@@ -108,32 +108,22 @@ pub fn write_endless(w: u16) -> bool
 }
 
 // Where column c stands in its block: a burst's length is a power of two, so the block is found by a mask.
-pub fn block_place(w: u16, c: u16) -> u16
+pub fn block_place(w: u16, c: u64) -> u16
     ensures { λ r. ⌜ r ≡ c % length-of w ⌝ }
 {
-    c & (length_of(w) - 1)
+    (c & (length_of(w) as u64 - 1)) as u16
 }
 
-// The column inside its block of beat i, from place s of the block: access i of row s of 003 table 6. Interleaved, that is
-// an exclusive or; sequential, the sum inside the block. What the table has no place for is 0.
+// Beat i inside the block, from start s. Interleaved: start exclusive or beat number. Sequential: start plus beat number, which
+// is taken modulo the length first, so that no sum can pass 64 bits.
 pub fn in_block(w: u16, s: u16, i: u64) -> u16
     ensures { λ r. ⌜ r ≡ in-block w s i ⌝ }
 {
-    if 3 < w % 8 {
-        return 0;
-    }
-    let length = length_of(w);
-    if length <= s {
-        return 0;
-    }
-    if (length as u64) <= i {
-        return 0;
-    }
-    let beat = i as u16;
+    let start = s as u64;
     if interleaved(w) {
-        return s ^ beat;
+        return block_place(w, start ^ i);
     }
-    (s + beat) & (length - 1)
+    block_place(w, start + block_place(w, i) as u64)
 }
 
 // The column of beat i of a burst from column c. "Full page wraps at 2,048 columns and goes on without end."
@@ -144,6 +134,6 @@ pub fn beat_column(w: u16, c: u16, i: u64) -> u16
         let columns = COLUMNS as u64;
         return ((c as u64 + i % columns) % columns) as u16;
     }
-    let s = block_place(w, c);
+    let s = block_place(w, c as u64);
     c - s + in_block(w, s, i)
 }

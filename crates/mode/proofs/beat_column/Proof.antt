@@ -1,8 +1,8 @@
--- `mode::beat_column` meets its contract: full page by the sum modulo the columns, a block by its place and the table. Assumes nothing.
+-- `mode::beat_column` meets its contract: full page by the sum modulo the columns, else the block and the place in it. Assumes nothing.
 use native.Mathlib.Nat.{add-mod-mod, mod-le}
 use borrow.Author.Needs.{needs}
 use Rattle.mode.specs.Order.{beat-column}
-use Rattle.mode.proofs.Printed.{column-fits}
+use Rattle.mode.proofs.Length.{column-fits}
 use Rattle.mode.proofs.beat_column.Statement.{statement}
 use Rattle.mode.proofs.beat_column.Tie as tie
 
