@@ -33,15 +33,15 @@ table-6 =
     ∷ (7 ∷ 0 ∷ 1 ∷ 2 ∷ 3 ∷ 4 ∷ 5 ∷ 6 ∷ [], 7 ∷ 6 ∷ 5 ∷ 4 ∷ 3 ∷ 2 ∷ 1 ∷ 0 ∷ [])
     ∷ []
 
--- the same rows by the rule, for the length of M2 to M0 = k, from starting column s on
-abbrev rows-from : ℕ → ℕ → ℕ → List (List ℕ × List ℕ)
-rows-from k s zero = []
-rows-from k s (suc n) = (columns-from k s 0 (length-of k), columns-from (8 + k) s 0 (length-of k)) ∷ rows-from k (suc s) n
+-- the same orders by the rule, for the length of M2 to M0 = k, from starting column s on
+abbrev orders-from : ℕ → ℕ → ℕ → List (List ℕ × List ℕ)
+orders-from k s zero = []
+orders-from k s (suc n) = (columns-from k s 0 (length-of k), columns-from (8 + k) s 0 (length-of k)) ∷ orders-from k (suc s) n
 
-abbrev rows : ℕ → List (List ℕ × List ℕ)
-rows k = rows-from k 0 (length-of k)
+abbrev orders : ℕ → List (List ℕ × List ℕ)
+orders k = orders-from k 0 (length-of k)
 
-pub printed-orders : rows 0 ++ rows 1 ++ rows 2 ++ rows 3 ≡ table-6
+pub printed-orders : orders 0 ++ orders 1 ++ orders 2 ++ orders 3 ≡ table-6
 unfolding length-of beat-column
 printed-orders = refl
 

@@ -1,4 +1,4 @@
--- `mode::in_block` meets its contract: the definition's rule; a sum modulo the length, modulo the length. Assumes nothing.
+-- `mode::in_block` meets its contract: the rule; a beat number modulo the length leaves the sum modulo the length. Assumes nothing.
 use native.Mathlib.Nat.{add-mod-mod}
 use borrow.Author.Needs.{needs}
 use Rattle.mode.proofs.in_block.Statement.{statement}
