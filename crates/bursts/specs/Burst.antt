@@ -1,5 +1,5 @@
 -- One burst: its registration, what cuts it, and its beats (01, Beats). Definitions only.
-use Prim.Native.Nat.{ℕ, _+_, _-_, min}
+use Prim.Native.Nat.{ℕ, _+_, _-_, max}
 use mathlib.Core.Bool.{Bool, true, false, not, _&&_, _||_, cond}
 use lib.Dec.{leb, ltb}
 use Rattle.units.specs.declared.Clock.{Clock}
@@ -44,10 +44,15 @@ burst-at word n addr column ba row =
 abbrev pub ends : Command → ℕ → ℕ → ℕ → Bool
 ends k addr ba i = access k || is k Terminate || (is k Precharge && covers addr ba i)
 
--- the earlier of a cut on clock n and the cut so far
-abbrev pub sooner : Clock → Event → Event
-sooner n Never = On n
-sooner n (On x) = On (clock (min (n .0) (x .0)))
+-- the beat on clock n, w + i, is not "lost if .. stands at x with w < x <= w + i"; w is `start`, and a command that ended the burst
+-- stood on x, or none has
+abbrev pub before-cut : Clock → Clock → Event → Bool
+before-cut start n Never = true
+before-cut start n (On x) = not (ltb (start .0) (x .0) && leb (x .0) (n .0))
+
+-- the cut of a burst that a command ends on clock n: the burst's own where that is as early, and where n is not after the start
+abbrev pub cut-on : Clock → Clock → Event → Event
+cut-on start n cut = cond (ltb (start .0) (n .0) && before-cut start n cut) (On n) cut
 
 abbrev pub cut-if : Bool → Clock → Burst → Burst
 cut-if f n b =
@@ -58,7 +63,7 @@ cut-if f n b =
       row = b .row;
       column = b .column;
       start = b .start;
-      cut = cond f (sooner n (b .cut)) (b .cut);
+      cut = cond f (cut-on (b .start) n (b .cut)) (b .cut);
       word = b .word;
     }
 
@@ -68,15 +73,10 @@ cut-by k addr ba n b = cut-if (ends k addr ba (b .bank)) n b
 
 -- ── Beats ──
 
--- clock n is before the cut
-abbrev pub before-cut : Clock → Event → Bool
-before-cut n Never = true
-before-cut n (On x) = ltb (n .0) (x .0)
-
--- beat i = n - start is one of the burst's, and is not "lost if .. stands at x with w < x <= w + i"
+-- beat i = n - start is one of the burst's, and is not lost
 unfoldable pub has-beat : Burst → ℕ → Bool → Clock → Bool
 has-beat b length endless n =
-    b .live && leb (b .start .0) (n .0) && before-cut n (b .cut) && (endless || ltb (n .0) (b .start .0 + length))
+    b .live && leb (b .start .0) (n .0) && before-cut (b .start) n (b .cut) && (endless || ltb (n .0) (b .start .0 + length))
 
 -- "Lanes with DQMB LOW"
 abbrev pub lanes-low : ℕ → ℕ
@@ -100,6 +100,11 @@ abbrev pub reads-on : Burst → Clock → Bool
 reads-on b n =
     leb (latency (b .word)) (n .0)
     && has-beat b (length-of (b .word)) (full-page (b .word)) (clock (n .0 - latency (b .word)))
+
+-- some beat is still to come, on clock n or later: they are fetched clock after clock, so the first one from CL before n on tells
+abbrev pub to-come : Clock → Burst → Bool
+to-come n b =
+    has-beat b (length-of (b .word)) (full-page (b .word)) (clock (max (b .start .0) (n .0 - latency (b .word))))
 
 -- the beat, with the masks of two clocks before
 unfoldable pub read-beat : Burst → ℕ → Clock → Beat

@@ -2,8 +2,8 @@
 use Prim.Native.Nat.{ℕ, _+_, _-_}
 use mathlib.Core.Bool.{Bool, true, false, not, _&&_, _||_, cond}
 use mathlib.Core.List.{List, [], _∷_}
-use lib.Dec.{leb, eqb}
-use lib.ListN.{getD, take}
+use lib.Dec.{leb, ltb, eqb}
+use lib.ListN.{getD}
 use Rattle.units.specs.declared.Clock.{Clock}
 use Rattle.units.specs.declared.Event.{Event}
 use Rattle.units.specs.declared.Event.the-variants.{Never, On}
@@ -19,7 +19,7 @@ use Rattle.bursts.specs.declared.Bus.{Bus}
 use Rattle.bursts.specs.declared.Cells.{Cells}
 use Rattle.bursts.specs.declared.Beat.{Beat}
 use Rattle.bursts.specs.declared.Beat.the-variants.{Quiet, Stores, Drives}
-use Rattle.bursts.specs.Burst.{no-burst, burst-at, cut-by, write-beat, reads-on, read-beat, finished}
+use Rattle.bursts.specs.Burst.{no-burst, burst-at, cut-by, write-beat, reads-on, to-come, read-beat, finished}
 
 -- ── Masks ──
 
@@ -57,15 +57,21 @@ or-else Quiet b = b
 or-else (Stores c) b = Stores c
 or-else (Drives c) b = Drives c
 
--- of READ bursts, the latest first
-abbrev pub reads-beat : List Burst → ℕ → Clock → Beat
-reads-beat [] masks n = Quiet
-reads-beat (b ∷ bs) masks n = or-else (read-beat b masks n) (reads-beat bs masks n)
-
 -- some READ has a beat on clock n
 abbrev pub reads-run : List Burst → Clock → Bool
 reads-run [] n = false
 reads-run (b ∷ bs) n = reads-on b n || reads-run bs n
+
+-- some READ that was registered after clock x has a beat on clock n
+abbrev pub later-run : Clock → List Burst → Clock → Bool
+later-run x [] n = false
+later-run x (b ∷ bs) n = (ltb (x .0) (b .start .0) && reads-on b n) || later-run x bs n
+
+-- of READ bursts, that of the latest; of two registered on one clock, the first of the list
+abbrev pub reads-beat : List Burst → ℕ → Clock → Beat
+reads-beat [] masks n = Quiet
+reads-beat (b ∷ bs) masks n =
+    cond (reads-on b n && not (later-run (b .start) bs n)) (read-beat b masks n) (reads-beat bs masks n)
 
 -- ── What a record leaves on the bus ──
 
@@ -76,14 +82,32 @@ abbrev pub cut-each : Command → ℕ → ℕ → Clock → List Burst → List 
 cut-each k addr ba n [] = []
 cut-each k addr ba n (b ∷ bs) = cut-by k addr ba n b ∷ cut-each k addr ba n bs
 
--- READ bursts, from those that the command left cut: "a WRITE at x with r < x <= r + CL + i" loses all that is to come
-unfoldable pub reads-from : Command → Burst → List Burst → List Burst
-reads-from k new bs = cond (is k Write) no-reads (cond (is k Read) (new ∷ take 3 bs) bs)
+-- "a WRITE at x with r < x <= r + CL + i" loses all that is to come of a READ before it
+abbrev pub written-over : Clock → List Burst → List Burst
+written-over n [] = []
+written-over n (b ∷ bs) = cond (ltb (b .start .0) (n .0)) no-burst b ∷ written-over n bs
+
+-- READ b makes room for a new one before READ d: d has beats to come, and b has none, or was registered before d
+abbrev pub gives-way : Clock → Burst → Burst → Bool
+gives-way n b d = to-come n d && (not (to-come n b) || ltb (b .start .0) (d .start .0))
+
+abbrev pub gives-way-first : Clock → Burst → List Burst → Bool
+gives-way-first n b [] = true
+gives-way-first n b (d ∷ ds) = gives-way n b d && gives-way-first n b ds
+
+-- all but the one that makes room, the last where several might
+abbrev pub with-room : Clock → List Burst → List Burst
+with-room n [] = []
+with-room n (b ∷ bs) = cond (gives-way-first n b bs) bs (b ∷ with-room n bs)
+
+-- the READ bursts after command k on clock n, from those that it left cut
+unfoldable pub reads-from : Command → Clock → Burst → List Burst → List Burst
+reads-from k n new bs = cond (is k Write) (written-over n bs) (cond (is k Read) (new ∷ with-room n bs) bs)
 
 -- the READ bursts after command k of record r on clock n, in mode `word`, of the open row
 abbrev pub reads-after : Command → Record → Clock → ℕ → ℕ → List Burst → List Burst
 reads-after k r n word row bs =
-    reads-from k (burst-at word n (r .addr) (r .column) (r .ba) row) (cut-each k (r .addr) (r .ba) n bs)
+    reads-from k n (burst-at word n (r .addr) (r .column) (r .ba) row) (cut-each k (r .addr) (r .ba) n bs)
 
 -- the WRITE burst after it
 abbrev pub write-after : Command → Record → Clock → ℕ → ℕ → Burst → Burst

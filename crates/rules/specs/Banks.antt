@@ -1,12 +1,14 @@
 -- What a bank's record says, and the bank that a command must find: numbers 13 and 15 (01, Commands and what each must find). Definitions only.
 use Prim.Native.Nat.{ℕ}
-use mathlib.Core.Bool.{Bool, true, false, _&&_, _||_}
+use mathlib.Core.Bool.{Bool, true, false, _&&_, _||_, cond}
 use mathlib.Core.List.{List, [], _∷_}
+use lib.Dec.{ltb}
 use lib.ListN.{getD}
 use Rattle.units.specs.declared.Clock.{Clock}
 use Rattle.units.specs.declared.Ps.{Ps}
 use Rattle.units.specs.declared.Event.{Event}
-use Rattle.units.specs.Time.{at, by, plus, clocks-of}
+use Rattle.units.specs.declared.Event.the-variants.{Never, On}
+use Rattle.units.specs.Time.{at, by, plus}
 use Rattle.layout.specs.declared.Command.{Command}
 use Rattle.layout.specs.declared.Command.the-variants.{Active, Refresh, LoadMode}
 use Rattle.layout.specs.Commands.{is, access}
@@ -49,10 +51,15 @@ closings NotStarted = []
 closings (Open row n) = []
 closings (Closed t) = t ∷ []
 
+-- the clock on which an event stands, where that is after clock n
+abbrev pub clock-after : Clock → Event → List Clock
+clock-after n Never = []
+clock-after n (On x) = cond (ltb (n .0) (x .0)) (x ∷ []) []
+
 -- "the last clock on which a byte was stored in it after its ACTIVE", of an open bank
 abbrev pub last-store : Status → Event → List Clock
 last-store NotStarted e = []
-last-store (Open row n) e = clocks-of e
+last-store (Open row n) e = clock-after n e
 last-store (Closed t) e = []
 
 -- each of the banks

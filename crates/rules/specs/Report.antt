@@ -1,6 +1,7 @@
 -- Beats as two words for each record in a lent slice of numbers, and a run of records with what it leaves. Definitions only.
-use Prim.Native.Nat.{ℕ, _+_, _*_, _/_, _%_, _^_}
-use mathlib.Core.List.{List, [], _∷_, _++_}
+use Prim.Native.Nat.{ℕ, suc, _+_, _-_, _*_, _/_, _%_, _^_}
+use mathlib.Core.Bool.{cond}
+use mathlib.Core.List.{List, [], _∷_}
 use lib.Dec.{leb, eqb}
 use lib.ListN.{length, set}
 use Rattle.layout.specs.declared.Record.{Record}
@@ -61,16 +62,27 @@ fold u s (r ∷ rs) page beats =
       | Refused n i ↦ left (ran (Refused n i) (s .core .number)) page beats
     ]
 
--- what is tried before the first of the records: 1, where the bytes are no whole records; 3, 4, 6, 7 and 25; and 25 also where the
--- records would take the record number past 2^41
+-- what is tried before the first of the records: 1, where the bytes are no whole records; 3, 4, 6, 7 and 25
 unfoldable pub records-rules : Setup → State → ℕ → ℕ → List Rule
-records-rules u s bytes lent =
-    rule 1 0 (eqb (bytes % 16) 0) ∷ (state-rules u s lent ++ (rule 25 0 (leb (s .core .number + bytes / 16) number-max) ∷ []))
+records-rules u s bytes lent = rule 1 0 (eqb (bytes % 16) 0) ∷ state-rules u s lent
 
--- the call that judges the records of a lent slice from a state
+-- how many records come before one whose number is above 2^41
+abbrev pub room : State → ℕ
+room s = suc number-max - s .core .number
+
+-- where there are more and those before it were taken, that one gets 25 as from the one-record call: "report record 0"
+abbrev pub above-number-max : Ran → Ran
+above-number-max r = elim (r .verdict) [ | Taken ↦ ran (Refused 25 0) 0 | Refused n i ↦ ran (Refused n i) (r .reported) ]
+
+abbrev pub past-room : Left → Left
+past-room l = left (above-number-max (l .ran)) (l .page) (l .beats)
+
+-- the call that judges the records of a lent slice from a state, each as the one-record call would
 unfoldable pub records-call : Setup → State → List ℕ → List ℕ → List ℕ → Left
 records-call u s bytes page beats =
     elim (first-broken (records-rules u s (length bytes) (length page))) [
-      | Taken ↦ fold u s (records-of (state-module s) (length bytes / 16) bytes) page beats
+      | Taken ↦
+          cond (leb (length bytes / 16) (room s)) (fold u s (records-of (state-module s) (length bytes / 16) bytes) page beats)
+          (past-room (fold u s (records-of (state-module s) (room s) bytes) page beats))
       | Refused n i ↦ left (ran (Refused n i) 0) page beats
     ]
