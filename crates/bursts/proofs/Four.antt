@@ -1,9 +1,10 @@
 -- Recursions on the four READ bursts, as the code writes them out. Assumes nothing.
 use Prim.Native.Nat.{ℕ}
 use native.Mathlib.Omega.{arith}
-use mathlib.Core.Path.{_≡_, refl, ap, _∙_}
-use mathlib.Core.Bool.{Bool, true, false, _&&_, _||_, cond, and-true, or-false}
+use mathlib.Core.Path.{_≡_, refl, ap, sym, _∙_}
+use mathlib.Core.Bool.{Bool, true, false, not, _&&_, _||_, cond, and-true, and-false, or-false}
 use mathlib.Core.List.{List, [], _∷_}
+use lib.Dec.{ltb}
 use lib.ListN.{length, getD}
 use Rattle.units.specs.declared.Clock.{Clock}
 use Rattle.units.specs.declared.Event.the-variants.{Never}
@@ -14,11 +15,20 @@ use Rattle.layout.specs.declared.Command.the-variants.{Read, Write}
 use Rattle.layout.specs.Commands.{is}
 use Rattle.mode.specs.Word.{length-of}
 use Rattle.bursts.specs.declared.Burst.{Burst}
-use Rattle.bursts.specs.declared.Cells.{Cells}
-use Rattle.bursts.specs.declared.Beat.{Beat}
-use Rattle.bursts.specs.declared.Beat.the-variants.{Quiet, Drives}
-use Rattle.bursts.specs.Burst.{burst-at, cut-if, cut-by, reads-on, read-beat, finished}
-use Rattle.bursts.specs.Bus.{or-else, no-reads, reads-beat, reads-run, cut-each, reads-from, reads-after, reads-finished}
+use Rattle.bursts.specs.declared.Beat.the-variants.{Quiet}
+use Rattle.bursts.specs.Burst.{no-burst, burst-at, cut-if, cut-by, reads-on, to-come, read-beat, finished}
+use Rattle.bursts.specs.Bus.{
+  reads-beat,
+  reads-run,
+  cut-each,
+  written-over,
+  gives-way,
+  with-room,
+  reads-from,
+  reads-after,
+  reads-finished,
+}
+use Rattle.bursts.proofs.Cutting.{written-cut}
 
 -- what an array of bursts is taken to hold past its end
 abbrev pub past : Burst
@@ -37,26 +47,23 @@ four (a ∷ b ∷ c ∷ []) h = absurd (omega arith)
 four (a ∷ b ∷ c ∷ d ∷ []) h = refl
 four (a ∷ b ∷ c ∷ d ∷ e ∷ l) h = absurd (omega arith)
 
--- a beat that drives where a test holds: the test chooses between it and what comes after
-drives-or-else : (t : Bool) (c : Cells) (x : Beat) → or-else (cond t (Drives c) Quiet) x ≡ cond t (cond t (Drives c) Quiet) x
-drives-or-else true c x = refl
-drives-or-else false c x = refl
-
--- a READ that runs has the beat, and one that does not leaves it to the others
-runs-or-else : (b : Burst) (masks : ℕ) (n : Clock) (x : Beat)
-    → or-else (read-beat b masks n) x ≡ cond (reads-on b n) (read-beat b masks n) x
-unfolding read-beat
-runs-or-else b masks n x = drives-or-else (reads-on b n) _ x
+-- READ d runs and was registered after READ b
+abbrev outruns : Burst → Burst → Clock → Bool
+outruns d b n = ltb (b .start .0) (d .start .0) && reads-on d n
 
 module _ (bs : List Burst) (h : length bs ≡ 4) where
-  -- the beat of the READs is that of the first that runs
+  -- the beat of the READs is that of the one registered last of those that run
   pub reads-beat-four : (masks : ℕ) (n : Clock)
       → reads-beat bs masks n
-      ≡ cond (reads-on (burst bs 0) n) (read-beat (burst bs 0) masks n)
-      (cond (reads-on (burst bs 1) n) (read-beat (burst bs 1) masks n)
-      (cond (reads-on (burst bs 2) n) (read-beat (burst bs 2) masks n)
+      ≡ cond
+      (reads-on (burst bs 0) n
+      && not (outruns (burst bs 1) (burst bs 0) n || (outruns (burst bs 2) (burst bs 0) n || outruns (burst bs 3) (burst bs 0) n)))
+      (read-beat (burst bs 0) masks n)
+      (cond (reads-on (burst bs 1) n && not (outruns (burst bs 2) (burst bs 1) n || outruns (burst bs 3) (burst bs 1) n))
+      (read-beat (burst bs 1) masks n)
+      (cond (reads-on (burst bs 2) n && not (outruns (burst bs 3) (burst bs 2) n)) (read-beat (burst bs 2) masks n)
       (cond (reads-on (burst bs 3) n) (read-beat (burst bs 3) masks n) Quiet)))
-  reads-beat-four masks n = ap (λ (l : List Burst). reads-beat l masks n) (four bs h) ∙ simp runs-or-else
+  reads-beat-four masks n = ap (λ (l : List Burst). reads-beat l masks n) (four bs h) ∙ simp (or-false, and-true)
 
   pub reads-run-four : (n : Clock)
       → reads-run bs n
@@ -80,24 +87,51 @@ module _ (bs : List Burst) (h : length bs ≡ 4) where
       && finished (length-of (burst bs 3 .word)) n (burst bs 3))))
   reads-finished-four n = ap (reads-finished n) (four bs h) ∙ rw and-true
 
-  -- a READ is the latest and cuts those before it, of which the fourth is let go
+  -- a WRITE leaves those READs that are not before it
+  pub written-four : (n : Clock)
+      → written-over n bs
+      ≡ (cond (ltb (burst bs 0 .start .0) (n .0)) no-burst (burst bs 0)
+      ∷ cond (ltb (burst bs 1 .start .0) (n .0)) no-burst (burst bs 1)
+      ∷ cond (ltb (burst bs 2 .start .0) (n .0)) no-burst (burst bs 2)
+      ∷ cond (ltb (burst bs 3 .start .0) (n .0)) no-burst (burst bs 3)
+      ∷ [])
+  written-four n = ap (written-over n) (four bs h)
+
+  -- a READ cuts those before it, and one of them makes room
   pub new-first : (k : Command) (r : Record) (n : Clock) (word row : ℕ) → is k Write ≡ false → is k Read ≡ true
       → (burst-at word n (r .addr) (r .column) (r .ba) row
-      ∷ cut-if true n (burst bs 0)
+      ∷ with-room n
+      (cut-if true n (burst bs 0)
       ∷ cut-if true n (burst bs 1)
       ∷ cut-if true n (burst bs 2)
-      ∷ [])
+      ∷ cut-if true n (burst bs 3)
+      ∷ []))
       ≡ reads-after k r n word row bs
   unfolding reads-from
   new-first k r n word row w e = rw (w, e, cut-each-four k (r .addr) (r .ba) n, e)
 
-module _ (k : Command) (new : Burst) (bs : List Burst) where
-  -- a WRITE leaves no READ burst
-  pub none-after-write : is k Write ≡ true → no-reads ≡ reads-from k new bs
-  unfolding reads-from
-  none-after-write w = rw w
+-- a WRITE's READs need not be cut first
+pub after-write : (k : Command) (r : Record) (n : Clock) (word row : ℕ) (bs : List Burst) → is k Write ≡ true
+    → written-over n bs ≡ reads-after k r n word row bs
+unfolding reads-from
+after-write k r n word row bs w = rw w (sym (written-cut k (r .addr) (r .ba) n bs))
 
-  -- any command but READ and WRITE leaves those that it cut
-  pub kept-otherwise : is k Write ≡ false → is k Read ≡ false → bs ≡ reads-from k new bs
-  unfolding reads-from
-  kept-otherwise w r = rw (w, r)
+-- any command but READ and WRITE leaves those that it cut
+pub kept-otherwise : (k : Command) (n : Clock) (new : Burst) (bs : List Burst) → is k Write ≡ false → is k Read ≡ false
+    → bs ≡ reads-from k n new bs
+unfolding reads-from
+kept-otherwise k n new bs w r = rw (w, r)
+
+-- ── Which READ makes room ──
+
+module _ (n : Clock) (a b c d : Burst) where
+  -- the fourth, where it has no beat to come
+  pub fourth-gives-way : to-come n d ≡ false → (a ∷ b ∷ c ∷ []) ≡ with-room n (a ∷ b ∷ c ∷ d ∷ [])
+  fourth-gives-way h = simp (h, and-false)
+
+  -- the first, the second, the third or the fourth of the four
+  pub room-of-four :
+      with-room n (a ∷ b ∷ c ∷ d ∷ [])
+      ≡ cond (gives-way n a b && (gives-way n a c && gives-way n a d)) (b ∷ c ∷ d ∷ [])
+      (a ∷ cond (gives-way n b c && gives-way n b d) (c ∷ d ∷ []) (b ∷ cond (gives-way n c d) (d ∷ []) (c ∷ [])))
+  room-of-four = simp and-true

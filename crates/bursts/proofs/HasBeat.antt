@@ -24,14 +24,14 @@ module _ (b : Burst) (length : ℕ) (endless : Bool) (n : Clock) where
   none-where-no-burst h = rw h
 
   -- a beat that is cut is none, whatever else holds
-  pub none-when-cut : before-cut n (b .cut) ≡ false → has-beat b length endless n ≡ false
+  pub none-when-cut : before-cut (b .start) n (b .cut) ≡ false → has-beat b length endless n ≡ false
   unfolding has-beat
   none-when-cut h = rw (h, and-false)
 
-  pub none-unless-live-and-uncut : (b .live && before-cut n (b .cut)) ≡ false → has-beat b length endless n ≡ false
+  pub none-unless-live-and-uncut : (b .live && before-cut (b .start) n (b .cut)) ≡ false → has-beat b length endless n ≡ false
   none-unless-live-and-uncut h = go (b .live) refl h
     where
-      go : (live : Bool) → b .live ≡ live → (live && before-cut n (b .cut)) ≡ false → has-beat b length endless n ≡ false
+      go : (live : Bool) → b .live ≡ live → (live && before-cut (b .start) n (b .cut)) ≡ false → has-beat b length endless n ≡ false
       go false e i = none-where-no-burst e
       go true e i = none-when-cut i
 
@@ -40,7 +40,7 @@ module _ (b : Burst) (length : ℕ) (endless : Bool) (n : Clock) where
   none-ahead h = simp (lt-leb (b .start .0) (n .0) h, and-false)
 
   pub since-registration : b .live ≡ true → b .start .0 ≤ n .0
-      → has-beat b length endless n ≡ (before-cut n (b .cut) && (endless || ltb (n .0 - b .start .0) length))
+      → has-beat b length endless n ≡ (before-cut (b .start) n (b .cut) && (endless || ltb (n .0 - b .start .0) length))
   unfolding has-beat
   since-registration l h = rw (l, le-leb (b .start .0) (n .0) h, ltb-since (n .0) (b .start .0) length h)
 
@@ -50,11 +50,11 @@ module _ (b : Burst) (length : ℕ) (endless : Bool) (n : Clock) where
   beat-is-not-ahead h =
       leb-true (b .start .0) (n .0)
       (both (b .live) (leb (b .start .0) (n .0))
-      (both (b .live && leb (b .start .0) (n .0)) (before-cut n (b .cut))
-      (both (b .live && leb (b .start .0) (n .0) && before-cut n (b .cut)) (endless || ltb (n .0) (b .start .0 + length)) h .0) .0) .1)
+      (both (b .live && leb (b .start .0) (n .0)) (before-cut (b .start) n (b .cut))
+      (both (b .live && leb (b .start .0) (n .0) && before-cut (b .start) n (b .cut)) (endless || ltb (n .0) (b .start .0 + length)) h .0) .0) .1)
 
 module _ (b : Burst) (masks : ℕ) (n : Clock) where
-  pub quiet-write : (b .live && before-cut n (b .cut)) ≡ false → Quiet ≡ write-beat b masks n
+  pub quiet-write : (b .live && before-cut (b .start) n (b .cut)) ≡ false → Quiet ≡ write-beat b masks n
   unfolding write-beat
   quiet-write h = rw (none-unless-live-and-uncut b (write-length (b .word)) (write-endless (b .word)) n h)
 
@@ -64,7 +64,7 @@ module _ (b : Burst) (n : Clock) where
   reads-none h = rw (h, and-false)
 
   -- nor where the clock of its fetching was cut off
-  pub reads-none-when-cut : before-cut (clock (n .0 - latency (b .word))) (b .cut) ≡ false → false ≡ reads-on b n
+  pub reads-none-when-cut : before-cut (b .start) (clock (n .0 - latency (b .word))) (b .cut) ≡ false → false ≡ reads-on b n
   reads-none-when-cut h =
       rw (none-when-cut b (length-of (b .word)) (full-page (b .word)) (clock (n .0 - latency (b .word))) h, and-false)
 

@@ -1,7 +1,7 @@
 pub mod AutoPrecharge
+pub mod Cutting
 pub mod Four
 pub mod HasBeat
 pub mod HeldMasks
 pub mod Running
-pub mod Sooner
 pub mod Untouched

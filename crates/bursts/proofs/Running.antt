@@ -4,7 +4,7 @@ use native.Mathlib.Omega.{arith}
 use mathlib.Core.Path.{_≡_, refl, ap, ap₂, sym, _∙_}
 use mathlib.Core.Bool.{Bool, true, false, not, _&&_, _||_, cond, and-false, and-comm, true≢false}
 use mathlib.Core.List.{List, [], _∷_}
-use lib.Dec.{eqb}
+use lib.Dec.{ltb, eqb}
 use lib.ListN.{length}
 use borrow.Author.Tests.{eq-eqb, ne-eqb, eqb-true, eqb-false}
 use Rattle.units.specs.declared.Clock.{Clock}
@@ -18,9 +18,9 @@ use Rattle.bursts.specs.Bus.{
   all-high,
   masks-on,
   two-before,
-  or-else,
   reads-beat,
   reads-run,
+  later-run,
   drives-lane,
   driven,
   one-before,
@@ -31,17 +31,31 @@ use Rattle.bursts.proofs.HasBeat.{reads-none}
 
 -- ── A beat of the READs ──
 
+-- a later READ that runs is one that runs
+later-runs : (x : Clock) (bs : List Burst) (n : Clock) → later-run x bs n ≡ true → reads-run bs n ≡ true
+later-runs x [] n h = absurd (true≢false (sym h))
+later-runs x (b ∷ bs) n h = go (ltb (x .0) (b .start .0)) (reads-on b n) (later-runs x bs n) h
+  where
+    go : (y z : Bool) → (later-run x bs n ≡ true → reads-run bs n ≡ true) → (y && z || later-run x bs n) ≡ true
+        → (z || reads-run bs n) ≡ true
+    go y true ih e = refl
+    go true false ih e = ih e
+    go false false ih e = ih e
+
 -- all READs of a clock have the same masks: a lane is driven where some beat runs and some lane is LOW
 drives-any : (bs : List Burst) (masks : ℕ) (n : Clock) → drives-lane (reads-beat bs masks n) ≡ (reads-run bs n && not (eqb (lanes-low masks) 0))
 unfolding read-beat
 drives-any [] masks n = refl
-drives-any (b ∷ bs) masks n = go (reads-on b n) (drives-any bs masks n)
+drives-any (b ∷ bs) masks n = go (reads-on b n) (later-run (b .start) bs n) refl (drives-any bs masks n)
   where
-    go : (x : Bool) → drives-lane (reads-beat bs masks n) ≡ (reads-run bs n && not (eqb (lanes-low masks) 0))
-        → drives-lane (or-else (cond x (Drives (cells b (n .0 - latency (b .word) - b .start .0) masks)) Quiet) (reads-beat bs masks n))
+    go : (x y : Bool) → later-run (b .start) bs n ≡ y
+        → drives-lane (reads-beat bs masks n) ≡ (reads-run bs n && not (eqb (lanes-low masks) 0))
+        → drives-lane
+        (cond (x && not y) (cond x (Drives (cells b (n .0 - latency (b .word) - b .start .0) masks)) Quiet) (reads-beat bs masks n))
         ≡ ((x || reads-run bs n) && not (eqb (lanes-low masks) 0))
-    go true h = refl
-    go false h = h
+    go true true e h = h ∙ rw (later-runs (b .start) bs n e)
+    go true false e h = refl
+    go false y e h = h
 
 -- ── Clear on two clocks ──
 

@@ -1,6 +1,8 @@
 // The beats of one burst, and what a beat stores or drives (01, Beats).
+ghost use Prim.Native.Nat.{_-_, max};
 ghost use mathlib.Core.Path.{_≡_};
-ghost use Rattle.bursts.specs.Burst.{before-cut, has-beat, lanes-low, cells-at, write-beat, reads-on, read-beat, finished};
+ghost use Rattle.units.specs.Time.{clock};
+ghost use Rattle.bursts.specs.Burst.{before-cut, has-beat, lanes-low, cells-at, write-beat, reads-on, to-come, read-beat, finished};
 ghost use Rattle.bursts.specs.Bus.{stores-in};
 use crate::Beat;
 use crate::Burst;
@@ -14,14 +16,28 @@ use mode::write_length;
 use units::Clock;
 use units::Event;
 
-// Clock n is before the cut. A beat on the cut's own clock is lost: "w < x <= w + i".
-pub fn before_cut(n: Clock, cut: Event) -> bool
-    ensures { λ r. ⌜ r ≡ before-cut n cut ⌝ }
+// The beat on clock n is not lost. A cut on x takes it where "w < x <= w + i": one on the beat's own clock does, one that is
+// not after the burst's start does not.
+pub fn before_cut(start: Clock, n: Clock, cut: Event) -> bool
+    ensures { λ r. ⌜ r ≡ before-cut start n cut ⌝ }
 {
     match cut {
         Event::Never => true,
-        Event::On(x) => n.0 < x.0,
+        Event::On(x) => !((start.0 < x.0) & (x.0 <= n.0)),
     }
+}
+
+// The later of the registration and CL clocks before n: the first clock whose fetch is seen on clock n or later.
+fn first_fetch(start: Clock, n: Clock, cl: u64) -> Clock
+    ensures { λ r. ⌜ r ≡ clock (max (start .0) (n .0 - cl)) ⌝ }
+{
+    if n.0 < cl {
+        return start;
+    }
+    if n.0 - cl < start.0 {
+        return start;
+    }
+    Clock(n.0 - cl)
 }
 
 // "Lanes with DQMB LOW": all that are not masked.
@@ -55,13 +71,13 @@ impl Burst {
         if !self.live {
             return false;
         }
-        let start = self.start.0;
-        if n.0 < start {
+        let start = self.start;
+        if n.0 < start.0 {
             return false;
         }
         let cut = self.cut;
-        let kept = before_cut(n, cut);
-        kept & (endless | (n.0 - start < length as u64))
+        let kept = before_cut(start, n, cut);
+        kept & (endless | (n.0 - start.0 < length as u64))
     }
 
     // "WRITE at w: beat i on w + i", stored on the lanes with DQMB LOW on that clock. With M9 = 1 there is one beat. The
@@ -69,8 +85,9 @@ impl Burst {
     pub fn write_beat(self, masks: u8, n: Clock) -> Beat
         ensures { λ r. ⌜ r ≡ write-beat self masks n ⌝ }
     {
+        let start = self.start;
         let cut = self.cut;
-        if !(self.live & before_cut(n, cut)) {
+        if !(self.live & before_cut(start, n, cut)) {
             return Beat::Quiet;
         }
         let length = write_length(self.word);
@@ -95,11 +112,27 @@ impl Burst {
         if n.0 < cl {
             return false;
         }
+        let start = self.start;
         let cut = self.cut;
         let m = Clock(n.0 - cl);
-        if !before_cut(m, cut) {
+        if !before_cut(start, m, cut) {
             return false;
         }
+        let length = length_of(self.word);
+        let endless = full_page(self.word);
+        self.has_beat(length, endless, m)
+    }
+
+    // Some beat is on clock n or later. Beats are fetched clock after clock, so the first from CL before n on tells.
+    pub fn to_come(self, n: Clock) -> bool
+        ensures { λ r. ⌜ r ≡ to-come n self ⌝ }
+    {
+        if !self.live {
+            return false;
+        }
+        let cl = latency(self.word) as u64;
+        let start = self.start;
+        let m = first_fetch(start, n, cl);
         let length = length_of(self.word);
         let endless = full_page(self.word);
         self.has_beat(length, endless, m)

@@ -2,7 +2,7 @@
 ghost use mathlib.Core.Path.{_≡_};
 ghost use mathlib.Core.Bool.{cond};
 ghost use Rattle.layout.specs.Commands.{is};
-ghost use Rattle.bursts.specs.Burst.{no-burst, burst-at, ends, sooner, cut-if, cut-by};
+ghost use Rattle.bursts.specs.Burst.{no-burst, burst-at, ends, cut-on, cut-if, cut-by};
 use crate::Burst;
 use layout::Command;
 use layout::a10;
@@ -28,14 +28,21 @@ pub fn ends(k: Command, addr: u16, ba: u8, i: u8) -> bool
     is_access(k) | is(k, Command::Terminate) | (is(k, Command::Precharge) & own)
 }
 
-// The earlier of a cut on clock n, where one is asked, and the cut so far: what a cut took is lost for good.
-fn sooner_if(f: bool, n: Clock, cut: Event) -> Event
-    ensures { λ r. ⌜ r ≡ cond f (sooner n cut) cut ⌝ }
+// The cut of a burst from clock `start`, where one on clock n is asked. It counts after the start only, and where no earlier
+// one does: what a cut took is lost for good.
+fn cut_on(f: bool, start: Clock, n: Clock, cut: Event) -> Event
+    ensures { λ r. ⌜ r ≡ cond f (cut-on start n cut) cut ⌝ }
 {
     match cut {
-        Event::Never => { if f { Event::On(n) } else { Event::Never } }
+        Event::Never => {
+            if f & (start.0 < n.0) {
+                Event::On(n)
+            } else {
+                Event::Never
+            }
+        }
         Event::On(x) => {
-            if f & (n.0 <= x.0) {
+            if f & ((start.0 < n.0) & !((start.0 < x.0) & (x.0 <= n.0))) {
                 Event::On(n)
             } else {
                 Event::On(x)
@@ -89,7 +96,7 @@ impl Burst {
     {
         let held = self.cut;
         let start = self.start;
-        let cut = sooner_if(f, n, held);
+        let cut = cut_on(f, start, n, held);
         Burst {
             live: self.live,
             auto: self.auto,

@@ -1,11 +1,25 @@
-// The four READ bursts that can still have beats, the latest first (01, Beats). They are walked by value.
+// The four READ bursts that can still have beats (01, Beats). In a trace the latest stands first. They are walked by value.
 ghost use mathlib.Core.Path.{_≡_};
-ghost use mathlib.Core.Bool.{not, _&&_, _||_};
+ghost use mathlib.Core.Bool.{not, _&&_, _||_, cond};
+ghost use mathlib.Core.List.{[], _∷_};
+ghost use lib.Dec.{ltb};
 ghost use Rattle.layout.specs.declared.Command.the-variants.{Terminate, Precharge};
 ghost use Rattle.layout.specs.Commands.{is, access};
 ghost use Rattle.mode.specs.Word.{length-of};
-ghost use Rattle.bursts.specs.Burst.{reads-on, finished};
-ghost use Rattle.bursts.specs.Bus.{masks-on, two-before, no-reads, reads-beat, reads-run, cut-each, reads-after, reads-finished};
+ghost use Rattle.bursts.specs.Burst.{no-burst, reads-on, finished};
+ghost use Rattle.bursts.specs.Bus.{
+  masks-on,
+  two-before,
+  no-reads,
+  reads-beat,
+  reads-run,
+  cut-each,
+  written-over,
+  gives-way,
+  with-room,
+  reads-after,
+  reads-finished,
+};
 use crate::Beat;
 use crate::Burst;
 use crate::Masks;
@@ -34,26 +48,36 @@ pub fn can_end(k: Command) -> bool
     is_access(k) | is(k, Command::Terminate) | is(k, Command::Precharge)
 }
 
-// The beat of the READ bursts on clock n, the latest READ's first. The masks of two clocks before are looked up only
-// where a READ runs, and one that runs spares a look at the older ones.
+// The beat of the READ bursts on clock n: of those that run, the one registered last. The masks of two clocks before are
+// looked up only where a READ runs.
 pub fn reads_beat(last: Event, held: Masks, bs: [Burst; 4], n: Clock) -> Beat
     ensures { λ r. ⌜ r ≡ reads-beat bs (masks-on last held (two-before n)) n ⌝ }
 {
-    if bs[0].reads_on(n) {
+    let a = bs[0];
+    let b = bs[1];
+    let c = bs[2];
+    let d = bs[3];
+    let runs_b = b.reads_on(n);
+    let runs_c = c.reads_on(n);
+    let runs_d = d.reads_on(n);
+    if a.reads_on(n)
+        & !(((a.start.0 < b.start.0) & runs_b)
+            | (((a.start.0 < c.start.0) & runs_c) | ((a.start.0 < d.start.0) & runs_d)))
+    {
         let masks = masks_on(last, held, two_before(n));
-        return bs[0].read_beat(masks, n);
+        return a.read_beat(masks, n);
     }
-    if bs[1].reads_on(n) {
+    if runs_b & !(((b.start.0 < c.start.0) & runs_c) | ((b.start.0 < d.start.0) & runs_d)) {
         let masks = masks_on(last, held, two_before(n));
-        return bs[1].read_beat(masks, n);
+        return b.read_beat(masks, n);
     }
-    if bs[2].reads_on(n) {
+    if runs_c & !((c.start.0 < d.start.0) & runs_d) {
         let masks = masks_on(last, held, two_before(n));
-        return bs[2].read_beat(masks, n);
+        return c.read_beat(masks, n);
     }
-    if bs[3].reads_on(n) {
+    if runs_d {
         let masks = masks_on(last, held, two_before(n));
-        return bs[3].read_beat(masks, n);
+        return d.read_beat(masks, n);
     }
     Beat::Quiet
 }
@@ -69,9 +93,41 @@ pub fn cut_each(k: Command, addr: u16, ba: u8, n: Clock, bs: [Burst; 4]) -> [Bur
     [a, b, c, d]
 }
 
-// The bursts after command k of record r on clock n, in mode `word`, of the open row. A WRITE loses every beat still to
-// come, "a WRITE at x with r < x <= r + CL + i", so that none is cut first. A READ is the latest from now on; a fifth has
-// no beat left. Most records end no burst, and then nothing is walked.
+// The bursts after a WRITE on clock n: "a WRITE at x with r < x <= r + CL + i" loses every beat still to come of a READ
+// before it.
+fn written_over(n: Clock, bs: [Burst; 4]) -> [Burst; 4]
+    ensures { λ r. ⌜ r ≡ written-over n bs ⌝ }
+{
+    let a = bs[0].unless_before(n);
+    let b = bs[1].unless_before(n);
+    let c = bs[2].unless_before(n);
+    let d = bs[3].unless_before(n);
+    [a, b, c, d]
+}
+
+// A new READ on clock n, and the three of the others that stay: one with no beat to come makes room. In a trace that is the
+// fourth, the oldest; where each has beats to come, the one registered first makes room.
+fn with_new(n: Clock, new: Burst, a: Burst, b: Burst, c: Burst, d: Burst) -> [Burst; 4]
+    ensures { λ r. ⌜ r ≡ (new ∷ with-room n (a ∷ b ∷ c ∷ d ∷ [])) ⌝ }
+{
+    if !d.to_come(n) {
+        return [new, a, b, c];
+    }
+    if a.gives_way(b, n) & (a.gives_way(c, n) & a.gives_way(d, n)) {
+        return [new, b, c, d];
+    }
+    if b.gives_way(c, n) & b.gives_way(d, n) {
+        return [new, a, c, d];
+    }
+    if c.gives_way(d, n) {
+        return [new, a, b, d];
+    }
+    [new, a, b, c]
+}
+
+// The bursts after command k of record r on clock n, in mode `word`, of the open row. After a WRITE none need be cut: the
+// READs before it are gone, and those that are not before it keep their beats. Most records end no burst, and then nothing
+// is walked.
 pub fn reads_after(
     k: Command,
     r: Record,
@@ -83,14 +139,15 @@ pub fn reads_after(
     ensures { λ x. ⌜ x ≡ reads-after k r n word row bs ⌝ }
 {
     if is(k, Command::Write) {
-        return no_reads();
+        return written_over(n, bs);
     }
     if is(k, Command::Read) {
         let new = Burst::at(word, n, r.addr, r.column, r.ba, row);
         let a = bs[0].cut_if(true, n);
         let b = bs[1].cut_if(true, n);
         let c = bs[2].cut_if(true, n);
-        return [new, a, b, c];
+        let d = bs[3].cut_if(true, n);
+        return with_new(n, new, a, b, c, d);
     }
     if can_end(k) {
         return cut_each(k, r.addr, r.ba, n, bs);
@@ -99,6 +156,25 @@ pub fn reads_after(
 }
 
 impl Burst {
+    // The burst, or none where it was registered before clock n. It is built anew where it stays, as in `cut_if`.
+    fn unless_before(self, n: Clock) -> Burst
+        ensures { λ r. ⌜ r ≡ cond (ltb (self .start .0) (n .0)) no-burst self ⌝ }
+    {
+        if self.start.0 < n.0 {
+            return Burst::none();
+        }
+        self.cut_if(false, n)
+    }
+
+    // This READ makes room for a new one before READ d.
+    fn gives_way(self, d: Burst, n: Clock) -> bool
+        ensures { λ r. ⌜ r ≡ gives-way n self d ⌝ }
+    {
+        let stays = d.to_come(n);
+        let wanted = self.to_come(n);
+        stays & (!wanted | (self.start.0 < d.start.0))
+    }
+
     // A READ's burst asks no auto precharge, or is finished on clock n. Number 19 ends at r + length, though beats run on
     // for CL clocks. The length is worked out only where it is asked for.
     pub fn read_finished(self, n: Clock) -> bool

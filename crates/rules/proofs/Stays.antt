@@ -5,8 +5,8 @@ use native.Mathlib.Omega.{arith}
 use mathlib.Core.Path.{_≡_, refl}
 use mathlib.Core.Bool.{Bool, true, false, _&&_, cond}
 use mathlib.Core.List.{List, [], _∷_}
-use lib.Dec.{eqb}
-use lib.ListN.{getD, take}
+use lib.Dec.{ltb, eqb}
+use lib.ListN.{getD}
 use borrow.Author.Tests.{leb-true, eqb-true}
 use Rattle.units.specs.declared.Clock.{Clock}
 use Rattle.units.specs.declared.Ps.{Ps}
@@ -34,8 +34,8 @@ use Rattle.layout.specs.Widths.{Widths, OnModule}
 use Rattle.mode.specs.Word.{legal, single, length-of, write-length}
 use Rattle.bursts.specs.declared.Burst.{Burst}
 use Rattle.bursts.specs.declared.Bus.{Bus}
-use Rattle.bursts.specs.Burst.{no-burst, burst-at, sooner, cut-if, ends}
-use Rattle.bursts.specs.Bus.{no-reads, cut-each, reads-from, bus-after, stores-in}
+use Rattle.bursts.specs.Burst.{no-burst, burst-at, before-cut, cut-on, cut-if, ends}
+use Rattle.bursts.specs.Bus.{no-reads, cut-each, written-over, gives-way-first, with-room, reads-from, bus-after, stores-in}
 use Rattle.rules.specs.declared.Refreshes.{Refreshes}
 use Rattle.rules.specs.declared.Refreshes.the-variants.{None, One, Two}
 use Rattle.rules.specs.declared.Register.{Register}
@@ -119,10 +119,6 @@ cond-keeps : {A : Type 0} (P : A → Type 0) (x : Bool) (a b : A) → P a → P 
 cond-keeps P true a b p q = p
 cond-keeps P false a b p q = q
 
-sooner-fits : (n : Clock) (e : Event) → n .0 ≤ clock-max → FitEvent (sooner n e)
-sooner-fits n Never h = h
-sooner-fits n (On x) h = omega arith
-
 row-on : (m : Module) (x : Status) → StatusOn m x → row-of x < rows m
 row-on m NotStarted h = some-row m
 row-on m (Open row n) h = h
@@ -166,10 +162,13 @@ write-length-le w = go (single w)
 
 cut-fits : (n : Clock) → n .0 ≤ clock-max → (x : Bool) (b : Burst) → FitBurst b → FitBurst (cut-if x n b)
 cut-fits n h x b f =
-    record { start = f .start; cut = cond-keeps FitEvent x (sooner n (b .cut)) (b .cut) (sooner-fits n (b .cut) h) (f .cut) }
+    record {
+      start = f .start;
+      cut = cond-keeps FitEvent x (cut-on (b .start) n (b .cut)) (b .cut) (cond-keeps FitEvent (ltb (b .start .0) (n .0) && before-cut (b .start) n (b .cut)) (On n) (b .cut) h (f .cut)) (f .cut);
+    }
 
-cut-on : (m : Module) (n : Clock) (x : Bool) (b : Burst) → BurstOn m b → BurstOn m (cut-if x n b)
-cut-on m n x b f = record { bank = f .bank; row = f .row; column = f .column; word = f .word }
+cut-stays-on : (m : Module) (n : Clock) (x : Bool) (b : Burst) → BurstOn m b → BurstOn m (cut-if x n b)
+cut-stays-on m n x b f = record { bank = f .bank; row = f .row; column = f .column; word = f .word }
 
 no-burst-fits : FitBurst no-burst
 no-burst-fits = record { start = omega arith; cut = tt }
@@ -182,10 +181,14 @@ no-reads-keep P none = (none, (none, (none, (none, tt))))
 
 -- what holds of no burst and of a cut one holds of each burst that a record on clock n leaves
 module _ (P : Burst → Type 0) (n : Clock) (none : P no-burst) (cut : (x : Bool) (b : Burst) → P b → P (cut-if x n b)) where
-  take-keeps : (k : ℕ) (bs : List Burst) → Each P bs → Each P (take k bs)
-  take-keeps zero bs f = tt
-  take-keeps (suc k) [] f = tt
-  take-keeps (suc k) (b ∷ bs) f = (f .0, take-keeps k bs (f .1))
+  written-keeps : (bs : List Burst) → Each P bs → Each P (written-over n bs)
+  written-keeps [] f = tt
+  written-keeps (b ∷ bs) f = (cond-keeps P (ltb (b .start .0) (n .0)) no-burst b none (f .0), written-keeps bs (f .1))
+
+  room-keeps : (bs : List Burst) → Each P bs → Each P (with-room n bs)
+  room-keeps [] f = tt
+  room-keeps (b ∷ bs) f =
+      cond-keeps (Each P) (gives-way-first n b bs) bs (b ∷ with-room n bs) (f .1) (f .0, room-keeps bs (f .1))
 
   cut-each-keeps : (k : Command) (addr ba : ℕ) (bs : List Burst) → Each P bs → Each P (cut-each k addr ba n bs)
   cut-each-keeps k addr ba [] f = tt
@@ -199,8 +202,8 @@ module _ (P : Burst → Type 0) (n : Clock) (none : P no-burst) (cut : (x : Bool
       record {
         write = cond-keeps P (is k Write) _ _ new (cut (ends k (r .addr) (r .ba) (u .write .bank)) (u .write) (f .write));
         reads =
-            cond-keeps (Each P) (is k Write) _ _ (no-reads-keep P none)
-            (cond-keeps (Each P) (is k Read) _ _ (new, take-keeps 3 (cut-each k (r .addr) (r .ba) n (u .reads)) reads) reads);
+            cond-keeps (Each P) (is k Write) _ _ (written-keeps (cut-each k (r .addr) (r .ba) n (u .reads)) reads)
+            (cond-keeps (Each P) (is k Read) _ _ (new, room-keeps (cut-each k (r .addr) (r .ba) n (u .reads)) reads) reads);
       }
 
 banks-each : (P : Bank → Type 0) (f : ℕ → Bank → Bank) → ((i : ℕ) (b : Bank) → P b → P (f i b)) → (i : ℕ) (bs : List Bank) → Each P bs
@@ -275,7 +278,7 @@ module _ (u : Setup) (s : State) (r : Record) (g : Entered u (s .core) r) (a : A
         register =
             register-on-after m-at (is (command r) LoadMode) (r .addr) (eqb (r .ba) 0) n-at (s .core .startup .register) (mode-kept u s r p)
             (a .places .core .register);
-        bus = bus-left (BurstOn m-at) (no-burst-on m-at) (cut-on m-at n-at) new-on (a .places .core .bus);
+        bus = bus-left (BurstOn m-at) (no-burst-on m-at) (cut-stays-on m-at n-at) new-on (a .places .core .bus);
       }
 
   -- a clock within 4,096 of the last possible lasts less than 2^57

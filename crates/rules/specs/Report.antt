@@ -72,7 +72,7 @@ room s = suc number-max - s .core .number
 
 -- where there are more and those before it were taken, that one gets 25 as from the one-record call: "report record 0"
 abbrev pub above-number-max : Ran → Ran
-above-number-max r = elim (r .verdict) [ | Taken ↦ ran (Refused 25 0) 0 | Refused n i ↦ ran (Refused n i) (r .reported) ]
+above-number-max r = elim (r .verdict) [ Taken ↦ ran (Refused 25 0) 0 | Refused n i ↦ ran (Refused n i) (r .reported) ]
 
 abbrev pub past-room : Left → Left
 past-room l = left (above-number-max (l .ran)) (l .page) (l .beats)

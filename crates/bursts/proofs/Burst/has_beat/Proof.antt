@@ -1,8 +1,8 @@
--- `bursts::Burst::has_beat` meets its contract: no burst, one ahead, and one since its registration by subtraction. Assumes nothing.
 use mathlib.Core.Path.{sym}
-use borrow.Author.Needs.{needs}
 use borrow.Author.Tests.{not-true, not-false}
+use borrow.Author.Needs.{needs}
 use Rattle.bursts.proofs.HasBeat.{none-where-no-burst, none-ahead, since-registration}
+use Rattle.bursts.proofs.beats.before_cut.Reads as before-cut-reads
 use Rattle.bursts.proofs.Burst.has_beat.Statement.{statement}
 use Rattle.bursts.proofs.Burst.has_beat.Tie as tie
 
@@ -16,7 +16,7 @@ before-cut-requires : tie.Need-before-cut-requires
 before-cut-requires c κs = search needs
 
 returns-3 : tie.Need-returns-3
-returns-3 c = rw (c .before .before-cut .ensures) (sym (since-registration _ _ _ _ (not-false _ (c .before .before .before .before .if1 .left)) (c .before .before .if2 .left)))
+returns-3 c = rw (c .before .before .before-cut .ensures) (sym (since-registration _ _ _ _ (not-false _ (c .before .before .before .before .before .before .before .if1 .left)) (c .before .before .before .if2 .left)))
 
 pub has-beat-spec : {M : Type 1} → statement M
 has-beat-spec = tie.close (tie.spec returns returns-2 before-cut-requires returns-3)

@@ -1,9 +1,13 @@
--- `bursts::Burst::write_beat` meets its contract: the beat of the clocks since its registration. Assumes nothing.
 use mathlib.Core.Path.{sym, _∙_}
 use borrow.Author.Tests.{not-true}
 use borrow.Author.Needs.{needs}
-use Rattle.bursts.specs.Burst.{write-beat}
 use Rattle.bursts.proofs.HasBeat.{beat-is-not-ahead, quiet-write}
+use Rattle.bursts.specs.Burst.{write-beat}
+use Rattle.bursts.proofs.Burst.has_beat.Reads as has-beat-reads
+use Rattle.bursts.proofs.beats.before_cut.Reads as before-cut-reads
+use Rattle.bursts.proofs.beats.cells_at.Reads as cells-at-reads
+use Rattle.mode.proofs.write_endless.Reads as write-endless-reads
+use Rattle.mode.proofs.write_length.Reads as write-length-reads
 use Rattle.bursts.proofs.Burst.write_beat.Statement.{statement}
 use Rattle.bursts.proofs.Burst.write_beat.Tie as tie
 

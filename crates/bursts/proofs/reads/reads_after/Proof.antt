@@ -1,19 +1,27 @@
--- `bursts::reads::reads_after` meets its contract: a WRITE, a READ, another command that can end a burst, and one that can end none. Assumes nothing.
-use mathlib.Core.Path.{sym, _∙_}
+use mathlib.Core.Path.{_≡_, sym, _∙_}
+use lib.ListN.{length}
 use borrow.Author.Needs.{needs}
-use Rattle.bursts.proofs.Four.{new-first, none-after-write, kept-otherwise}
 use Rattle.bursts.proofs.Untouched.{reads-untouched}
+use Rattle.bursts.proofs.Four.{new-first, after-write, kept-otherwise}
+use Rattle.bursts.proofs.reads.reads_after.Reads as reads
+use Rattle.bursts.proofs.Burst.at.Reads as at-reads
+use Rattle.bursts.proofs.Burst.cut_if.Reads as cut-if-reads
+use Rattle.bursts.proofs.cuts.is.Reads as is-reads
+use Rattle.bursts.proofs.reads.can_end.Reads as can-end-reads
+use Rattle.bursts.proofs.reads.cut_each.Reads as cut-each-reads
+use Rattle.bursts.proofs.reads.with_new.Reads as with-new-reads
+use Rattle.bursts.proofs.reads.written_over.Reads as written-over-reads
 use Rattle.bursts.proofs.reads.reads_after.Statement.{statement}
 use Rattle.bursts.proofs.reads.reads_after.Tie as tie
 
 is-requires : tie.Need-is-requires
 is-requires c κs = search needs
 
-no-reads-requires : tie.Need-no-reads-requires
-no-reads-requires c κs = search needs
+written-over-requires : tie.Need-written-over-requires
+written-over-requires c κs = search needs
 
 returns : tie.Need-returns
-returns c = rw (c .no-reads .ensures) (none-after-write _ _ _ (sym (c .before .before .is .ensures) ∙ c .before .if1 .taken))
+returns c = let a = c .before .before .before .args in rw (c .written-over .ensures) (after-write (a .k) (a .r) (a .n) (a .word) (a .row) (a .t6) (sym (c .before .before .is .ensures) ∙ c .before .if1 .taken))
 
 is-requires-2 : tie.Need-is-requires-2
 is-requires-2 c κs = search needs
@@ -39,12 +47,20 @@ array-copy-out-cut-if-3 c = search needs
 cut-if-requires-3 : tie.Need-cut-if-requires-3
 cut-if-requires-3 c κs = search needs
 
+array-copy-out-cut-if-4 : tie.Need-array-copy-out-cut-if-4
+array-copy-out-cut-if-4 c = search needs
+
+cut-if-requires-4 : tie.Need-cut-if-requires-4
+cut-if-requires-4 c κs = search needs
+
+with-new-requires : tie.Need-with-new-requires
+with-new-requires c κs = search needs
+
 returns-2 : tie.Need-returns-2
-returns-2 c =
-    let s = c .before .before .before .before .before .before .before .before .before .before .before in
+returns-2 c = let s = c .before .before .before .before .before .before .before .before .before .before .before .before .before .before in
     let a = s .args in
-    rw (c .cut-if3 .ensures, c .before .before .cut-if2 .ensures, c .before .before .before .before .cut-if .ensures, c .before .before .before .before .before .before .at .ensures)
-    (new-first (a .t6) (s .good .1 .1 .1 .1 .1 .0 .1 .0 .1) (a .k) (a .r) (a .n) (a .word) (a .row) (sym (c .before .before .before .before .before .before .before .before .before .before .is .ensures) ∙ c .before .before .before .before .before .before .before .before .before .if1 .left) (sym (c .before .before .before .before .before .before .before .before .is2 .ensures) ∙ c .before .before .before .before .before .before .before .if2 .taken))
+    let h = s .good .1 .1 .1 .1 .1 .0 .1 .0 .1 in
+    rw (c .with-new .ensures, c .before .cut-if4 .ensures, c .before .before .before .cut-if3 .ensures, c .before .before .before .before .before .cut-if2 .ensures, c .before .before .before .before .before .before .before .cut-if .ensures, c .before .before .before .before .before .before .before .before .before .at .ensures) (new-first (a .t6) h (a .k) (a .r) (a .n) (a .word) (a .row) (sym (c .before .before .before .before .before .before .before .before .before .before .before .before .before .is .ensures) ∙ c .before .before .before .before .before .before .before .before .before .before .before .before .if1 .left) (sym (c .before .before .before .before .before .before .before .before .before .before .before .is2 .ensures) ∙ c .before .before .before .before .before .before .before .before .before .before .if2 .taken))
 
 can-end-requires : tie.Need-can-end-requires
 can-end-requires c κs = search needs
@@ -53,7 +69,7 @@ cut-each-requires : tie.Need-cut-each-requires
 cut-each-requires c κs = search needs
 
 returns-3 : tie.Need-returns-3
-returns-3 c = rw (c .cut-each .ensures) (kept-otherwise _ _ _ (sym (c .before .before .before .before .before .before .is .ensures) ∙ c .before .before .before .before .before .if1 .left) (sym (c .before .before .before .before .is2 .ensures) ∙ c .before .before .before .if2 .left))
+returns-3 c = rw (c .cut-each .ensures) (kept-otherwise _ _ _ _ (sym (c .before .before .before .before .before .before .is .ensures) ∙ c .before .before .before .before .before .if1 .left) (sym (c .before .before .before .before .is2 .ensures) ∙ c .before .before .before .if2 .left))
 
 returns-4 : tie.Need-returns-4
 returns-4 c = let a = c .before .before .before .before .before .before .args in reads-untouched _ (sym (c .before .can-end .ensures) ∙ c .if3 .left) (a .r) (a .n) (a .word) (a .row) _
@@ -63,7 +79,7 @@ reads-after-spec =
     tie.close
     (tie.spec
     is-requires
-    no-reads-requires
+    written-over-requires
     returns
     is-requires-2
     at-requires
@@ -73,6 +89,9 @@ reads-after-spec =
     cut-if-requires-2
     array-copy-out-cut-if-3
     cut-if-requires-3
+    array-copy-out-cut-if-4
+    cut-if-requires-4
+    with-new-requires
     returns-2
     can-end-requires
     cut-each-requires
