@@ -3,8 +3,9 @@ use Prim.Native.Nat.{ℕ}
 use mathlib.Core.Path.{_≡_, refl, ap, sym, _∙_}
 use mathlib.Core.Bool.{Bool, true, false, not, _&&_, _||_, cond, and-assoc, and-false, or-false}
 use mathlib.Core.List.{List, [], _∷_, _++_}
-use lib.Dec.{eqb}
+use lib.Dec.{ltb, eqb}
 use lib.ListN.{length}
+use Rattle.units.specs.declared.Clock.{Clock}
 use Rattle.units.specs.declared.Ps.{Ps}
 use Rattle.units.specs.declared.Event.{Event}
 use Rattle.units.specs.declared.Event.the-variants.{Never, On}
@@ -16,7 +17,7 @@ use Rattle.rules.specs.declared.Status.the-variants.{NotStarted, Open, Closed}
 use Rattle.rules.specs.declared.Bank.{Bank}
 use Rattle.rules.specs.declared.Verdict.the-variants.{Refused}
 use Rattle.rules.specs.Numbers.{Rule, rule, first-broken, tRCD, tRAS, tRC, tRP, tRRD, tRFC, tWR, tMRD}
-use Rattle.rules.specs.Banks.{bank-at, opened, closings, last-store}
+use Rattle.rules.specs.Banks.{bank-at, opened, closings, clock-after, last-store}
 use Rattle.rules.specs.Minima.{Since, since, from-times, from, only, each, met}
 use Rattle.rules.specs.Rules.{minimum-rules}
 use Rattle.asking.specs.Shorts.{
@@ -26,6 +27,7 @@ use Rattle.asking.specs.Shorts.{
   lowest,
   short-on,
   short-since,
+  short-after,
   short-opened,
   short-stored,
   short-closed,
@@ -123,11 +125,22 @@ shorts-opened t period now k NotStarted = shorts-zero t period now k
 shorts-opened t period now k (Open row n) = shorts-one t period now k (at period n)
 shorts-opened t period now k (Closed c) = shorts-zero t period now k
 
+shorts-after : (t : SpeedTable) (period now : Ps) (k : ℕ) (n : Clock) (e : Event)
+    → shorts t period now (from k period (clock-after n e)) ≡ one-short t period k (λ m. short-after period n e m now)
+unfolding short-after short-on
+shorts-after t period now k n Never = shorts-zero t period now k
+shorts-after t period now k n (On x) = go (ltb (n .0) (x .0))
+  where
+    go : (y : Bool)
+        → shorts t period now (from k period (cond y (x ∷ []) [])) ≡ one-short t period k (λ m. y && not (by (plus (at period x) m) now))
+    go true = shorts-one t period now k (at period x)
+    go false = shorts-zero t period now k
+
 pub shorts-stored : (t : SpeedTable) (period now : Ps) (k : ℕ) (x : Status) (e : Event)
     → shorts t period now (from k period (last-store x e)) ≡ one-short t period k (λ m. short-stored period x e m now)
 unfolding short-stored
 shorts-stored t period now k NotStarted e = shorts-zero t period now k
-shorts-stored t period now k (Open row n) e = shorts-since t period now k e
+shorts-stored t period now k (Open row n) e = shorts-after t period now k n e
 shorts-stored t period now k (Closed c) e = shorts-zero t period now k
 
 pub shorts-closed : (t : SpeedTable) (period now : Ps) (k : ℕ) (x : Status)

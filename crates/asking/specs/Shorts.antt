@@ -2,7 +2,7 @@
 use Prim.Native.Nat.{ℕ, _^_, _≤_}
 use mathlib.Core.Bool.{Bool, false, not, _&&_, _||_, cond}
 use mathlib.Core.List.{List}
-use lib.Dec.{eqb}
+use lib.Dec.{ltb, eqb}
 use Rattle.units.specs.declared.Clock.{Clock}
 use Rattle.units.specs.declared.Ps.{Ps}
 use Rattle.units.specs.declared.Event.{Event}
@@ -74,6 +74,11 @@ unfoldable pub short-since : Ps → Event → Ps → Ps → Bool
 short-since period Never m now = false
 short-since period (On n) m now = short-on period n m now
 
+-- since an event, where that is after clock n
+unfoldable pub short-after : Ps → Clock → Event → Ps → Ps → Bool
+short-after period n Never m now = false
+short-after period n (On x) m now = ltb (n .0) (x .0) && short-on period x m now
+
 unfoldable pub short-opened : Ps → Status → Ps → Ps → Bool
 short-opened period NotStarted m now = false
 short-opened period (Open row n) m now = short-on period n m now
@@ -81,7 +86,7 @@ short-opened period (Closed t) m now = false
 
 unfoldable pub short-stored : Ps → Status → Event → Ps → Ps → Bool
 short-stored period NotStarted e m now = false
-short-stored period (Open row n) e m now = short-since period e m now
+short-stored period (Open row n) e m now = short-after period n e m now
 short-stored period (Closed t) e m now = false
 
 unfoldable pub short-closed : Status → Ps → Ps → Bool

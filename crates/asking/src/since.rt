@@ -2,7 +2,7 @@
 ghost use mathlib.Core.Path.{_≡_};
 ghost use Rattle.parts.specs.Reach.{Reach, FitPeriod};
 ghost use Rattle.rules.specs.Admitted.{FitEvent, FitStatus};
-ghost use Rattle.asking.specs.Shorts.{FitSpan, short-on, short-since, short-opened, short-stored, short-closed};
+ghost use Rattle.asking.specs.Shorts.{FitSpan, short-on, short-since, short-after, short-opened, short-stored, short-closed};
 use parts::time;
 use rules::Status;
 use units::Clock;
@@ -41,14 +41,25 @@ pub fn short_opened(period: Ps, status: Status, min: Ps, now: Ps) -> bool
     }
 }
 
-// Since the last store in an open bank.
+// Since an event, where that is after clock n.
+fn short_after(period: Ps, n: Clock, event: Event, min: Ps, now: Ps) -> bool
+    requires { ⌜ FitPeriod period × FitEvent event × FitSpan min ⌝ }
+    ensures { λ r. ⌜ r ≡ short-after period n event min now ⌝ }
+{
+    match event {
+        Event::Never => false,
+        Event::On(x) => (n.0 < x.0) & short_on(period, x, min, now),
+    }
+}
+
+// Since the last store in an open bank, where that is "after its ACTIVE".
 pub fn short_stored(period: Ps, status: Status, stored: Event, min: Ps, now: Ps) -> bool
     requires { ⌜ FitPeriod period × FitEvent stored × FitSpan min ⌝ }
     ensures { λ r. ⌜ r ≡ short-stored period status stored min now ⌝ }
 {
     match status {
         Status::NotStarted => false,
-        Status::Open { row: _, active: _ } => short_since(period, stored, min, now),
+        Status::Open { row: _, active } => short_after(period, active, stored, min, now),
         Status::Closed { closing: _ } => false,
     }
 }

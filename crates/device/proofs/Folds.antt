@@ -34,13 +34,14 @@ use Rattle.device.proofs.InPlace.{Settled}
 
 -- ── What a state from which records may be judged gives ──
 
-pub able-call : {u : Setup} {s : State} {count : ℕ} → Able u s count → (r : Record) → Widths r → Call (u .table) (s .core) (s .banks) r
-able-call {s = s} a r w =
+pub able-call : {u : Setup} {s : State} {count : ℕ} → Able u s count → 0 < count → (r : Record) → Widths r
+    → Call (u .table) (s .core) (s .banks) r
+able-call {s = s} a h r w =
     record {
       table = a .table;
       period = a .period;
-      core = a .state .core;
-      banks = record { each = λ i. bank-fits-at (s .banks) i (a .state .banks) };
+      core = a .state h .core;
+      banks = record { each = λ i. bank-fits-at (s .banks) i (a .state h .banks) };
       widths = w;
     }
 
@@ -55,6 +56,7 @@ able-next u s count r a w o p =
       table = a .table;
       period = rw (next-period u s r) (a .period);
       state =
+          λ h.
           stays u s r
           (record {
             period = a .period;
@@ -62,9 +64,9 @@ able-next u s count r a w o p =
             addition = a .table .addition;
             widths = w;
             place = o;
-            number = omega (arith, a .room);
+            number = omega (arith, a .room, h);
           })
-          (a .state) p;
+          (a .state (omega arith)) p;
       room = omega (arith, a .room, next-number u s r);
     }
 

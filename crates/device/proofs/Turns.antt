@@ -8,6 +8,7 @@ use lib.ListN.{length}
 use Rattle.speed.proofs.Bounds.{bounds}
 use Rattle.units.specs.declared.Module.{Module}
 use Rattle.layout.specs.declared.Record.{Record}
+use Rattle.layout.specs.Bytes.{read-record, record-number}
 use Rattle.layout.specs.Widths.{Widths}
 use Rattle.layout.proofs.ReadBack.{ReadWhole}
 use Rattle.layout.proofs.Widths.{record-fits}
@@ -17,6 +18,7 @@ use Rattle.rules.specs.declared.Setup.{Setup}
 use Rattle.rules.specs.declared.Verdict.{Verdict}
 use Rattle.rules.specs.declared.Verdict.the-variants.{Taken, Refused}
 use Rattle.rules.specs.Numbers.{first-broken, number-of, interval-of}
+use Rattle.rules.specs.Parts.{state-module}
 use Rattle.rules.specs.Rules.{ask}
 use Rattle.rules.specs.After.{own-beat, next, page-next}
 use Rattle.device.specs.Turn.{Turned, turned, turn-of}
@@ -52,11 +54,11 @@ module _ (u : Setup) (s : State) (r : Record) (page : List ℕ) where
 -- ── The call by what is found ──
 
 module _ (u : Setup) (s : State) (bytes page : List ℕ) where
-  pub step-wrong : eqb (length bytes) 16 ≡ false → step u s bytes page ≡ refused 1 0 0 s page
+  pub step-wrong : eqb (record-number (read-record (state-module s) bytes)) 0 ≡ false → step u s bytes page ≡ refused 1 0 0 s page
   unfolding entry-rules
   step-wrong h = entry-refused u s bytes page 1 0 (rw h)
 
-  module _ (h : eqb (length bytes) 16 ≡ true) where
+  module _ (h : eqb (record-number (read-record (state-module s) bytes)) 0 ≡ true) where
     entry-state : first-broken (entry-rules u s bytes page) ≡ first-broken (state-rules u s (length page))
     unfolding entry-rules
     entry-state = rw h

@@ -1,13 +1,15 @@
 // Records of a lent slice, one after another: what each reports, and the loop.
 ghost use mathlib.Core.Path.{_≡_};
-ghost use Prim.Native.Nat.{_≤_, _*_, _+_};
+ghost use Prim.Native.Nat.{suc, _≤_, _*_, _+_, _-_};
+ghost use mathlib.Core.Bool.{cond};
+ghost use lib.Dec.{leb};
 ghost use lib.ListN.{length, set, drop};
 ghost use Rattle.layout.specs.Bytes.{records-of};
 ghost use Rattle.rules.specs.Numbers.{first-broken};
 ghost use Rattle.rules.specs.Parts.{core-module, start};
 ghost use Rattle.rules.specs.Fits.{number-max};
 ghost use Rattle.parts.specs.Reach.{Able};
-ghost use Rattle.rules.specs.Report.{beat-word, cells-word, put-line, left, ran, fold, records-rules, records-call};
+ghost use Rattle.rules.specs.Report.{beat-word, cells-word, put-line, left, ran, fold, records-rules, above-number-max, records-call};
 ghost use Rattle.device.specs.InPlace.{words-ahead, whole, core-of};
 use crate::Device;
 use crate::Words;
@@ -181,22 +183,37 @@ fn fold(
     ended(Verdict::Taken, number)
 }
 
-// What is tried before the first record: whole records, then 3, 4, 6, 7, 25, and room for their numbers.
+// What is tried before the first record: whole records, then 3, 4, 6, 7 and 25.
 fn records_verdict(u: Setup, s: State, bytes: usize, lent: usize) -> Verdict
     ensures { λ x. ⌜ x ≡ first-broken (records-rules u s bytes lent) ⌝ }
 {
     if bytes % 16 != 0 {
         return Verdict::refused(1);
     }
-    let v = single::state_verdict(u, s, lent);
-    let Verdict::Taken = v else {
-        return v;
-    };
-    let core = s.core;
-    if core.number + (bytes / 16) as u64 <= NUMBER_MAX {
-        return Verdict::Taken;
+    single::state_verdict(u, s, lent)
+}
+
+// How many of `count` records come before one whose number is above 2^41.
+fn before_max(count: usize, number: u64) -> usize
+    requires { ⌜ number ≤ number-max ⌝ }
+    ensures { λ x. ⌜ x ≡ cond (leb count (suc number-max - number)) count (suc number-max - number) ⌝ }
+{
+    let room = NUMBER_MAX + 1 - number;
+    if count as u64 <= room {
+        return count;
     }
-    Verdict::refused(25)
+    room as usize
+}
+
+// The record after those that were taken has a number above 2^41: it gets 25, as from the one-record call.
+fn above_max(r: Ran) -> Ran
+    ensures { λ x. ⌜ x ≡ above-number-max r ⌝ }
+{
+    let v = r.verdict;
+    let Verdict::Taken = v else {
+        return ended(v, r.reported);
+    };
+    ended(Verdict::refused(25), 0)
 }
 
 impl Device {
@@ -235,7 +252,7 @@ impl Device {
     }
 
     // The records of a lent slice from this state, each as the one-record call would judge it. What the state may hold is
-    // asked once, and not again for each record: a state that the judge itself leaves is always admitted.
+    // asked once, and not again for each record: a state that the judge itself leaves is admitted, but for its record number.
     pub fn records(self, setup: Setup, bytes: &[u8], page: &mut [u8], beats: &mut [u64]) -> Ran
         ensures { λ r. ⌜ left r (now (page .exit)) (now (beats .exit)) ≡ records-call setup (self .0) (now (bytes .entry)) (now (page .entry)) (now (beats .entry)) ⌝ }
     {
@@ -247,6 +264,12 @@ impl Device {
         };
         let core = s.core;
         let banks = s.banks;
-        fold(setup, core, banks, bytes, count, page, beats)
+        let some = before_max(count, core.number);
+        let end = 16 * some;
+        let ran = fold(setup, core, banks, &bytes[0..end], some, page, beats);
+        if some < count {
+            return above_max(ran);
+        }
+        ran
     }
 }

@@ -18,7 +18,7 @@ use Rattle.rules.proofs.Kept.{all-numbers, broken-number}
 use Rattle.rules.proofs.InTime.{Other, never}
 use Rattle.rules.proofs.OneRecord.{known-bench}
 use Rattle.rules.proofs.Stays.{start-admitted}
-use Rattle.hawsehole.specs.Trace.{whole-rules, lent-rules, module-in, start-of, records, judge}
+use Rattle.hawsehole.specs.Trace.{whole-rules, trace-rules, lent-rules, module-in, start-of, records, judge}
 use Rattle.hawsehole.proofs.Whole.{entry, by-entry}
 
 -- 1 to 7 are below 8
@@ -26,7 +26,7 @@ below-8 : (u : Setup) (trace page : List ℕ) (n i : ℕ) → entry u trace page
 unfolding whole-rules lent-rules
 below-8 u trace page n i p k h e =
     let f : ℕ → Bool = λ m. cond (cond (eqb m 23) true (eqb m 25)) false true in
-    let q : f n ≡ true = broken-number f (whole-rules u (header-of trace) (length trace) (length page)) n i refl p in
+    let q : f n ≡ true = broken-number f (trace-rules u trace (length page)) n i refl p in
     let d : f k ≡ true = subst (λ (m : ℕ). f m ≡ true) e q in
     let c : cond true false true ≡ true = subst (λ (b : Bool). cond b false true ≡ true) h d in
     let z : _≡_ {A = ℕ} 0 1 = cc in

@@ -1,19 +1,21 @@
--- The one-record call on each record in turn is the fold, the call of many records and the whole-trace judge. Assumes nothing.
-use Prim.Native.Nat.{ℕ, zero, suc, _+_, _*_, _/_, _%_}
+-- The one-record call on each record in turn is the call of many records and the whole-trace judge. Assumes nothing.
+use Prim.Native.Nat.{ℕ, zero, suc, _+_, _-_, _*_, _/_, _%_, _<_}
 use native.Mathlib.Omega.{arith}
 use native.Mathlib.Numerals.{add-one}
+use native.Mathlib.Nat.{zero-add, suc-add}
 use mathlib.Core.Path.{_≡_, refl, ap, sym, subst, _∙_}
 use mathlib.Core.Bool.{Bool, true, false, _&&_, cond}
 use mathlib.Core.List.{List, _∷_}
-use lib.Dec.{eqb}
+use lib.Dec.{leb, eqb}
 use lib.ListN.{length, take, drop, set, length-set, length-drop}
 use lib.Seq.{length-take-le}
-use borrow.Author.Tests.{eq-eqb, ne-eqb, eqb-true}
+use borrow.Author.Tests.{eq-eqb, ne-eqb, eqb-true, leb-false}
 use Rattle.units.specs.Module.{lanes, page-bytes}
 use Rattle.speed.specs.Table.{table-fits}
 use Rattle.units.specs.declared.Module.{Module}
 use Rattle.layout.specs.declared.Record.{Record}
 use Rattle.layout.specs.Bytes.{header-of, records-of}
+use Rattle.layout.proofs.ReadBack.{sixteen-pass}
 use Rattle.layout.proofs.Widths.{record-fits, record-on}
 use Rattle.bursts.specs.declared.Beat.{Beat}
 use Rattle.bursts.specs.declared.Beat.the-variants.{Quiet, Stores, Drives}
@@ -28,12 +30,14 @@ use Rattle.rules.specs.Rules.{ask}
 use Rattle.rules.specs.After.{own-beat, core-from, core-after, next, page-next}
 use Rattle.rules.specs.Run.{line}
 use Rattle.rules.specs.OneRecord.{period-fits, grade-known, state-rules, entry-rules, Stepped, refused, taken, step, record-for}
-use Rattle.rules.specs.Report.{put-line, left, ran, fold, records-rules, records-call}
-use Rattle.rules.proofs.Admitted.{fits-admitted}
+use Rattle.rules.specs.Report.{put-line, Left, left, ran, fold, records-rules, room, past-room, records-call}
+use Rattle.rules.specs.Fits.{number-max, fits}
+use Rattle.rules.proofs.Admitted.{admitted, fits-admitted}
 use Rattle.rules.proofs.Kept.{kept}
-use Rattle.rules.proofs.OneRecord.{judged-refused, step-entered, taken-at-zero, step-taken}
+use Rattle.rules.proofs.Runs.{next-number}
+use Rattle.rules.proofs.OneRecord.{judged-refused, step-entered, entry-refused, taken-at-zero, step-taken}
 use Rattle.parts.specs.Reach.{Able}
-use Rattle.device.proofs.Starts.{entry-of, records-entered}
+use Rattle.device.proofs.Starts.{at-most, Entry, entry-of, records-entered, records-past}
 use Rattle.device.proofs.Folds.{able-next, fold-taken, fold-refused}
 use Rattle.hawsehole.specs.Trace.{start-of}
 use Rattle.hawsehole.specs.Numbers.{whole-call}
@@ -74,11 +78,11 @@ record Ready (u : Setup) (s : State) (count : ℕ) (page : List ℕ) : Type 0 wh
   lent : length page ≡ page-bytes (state-module s)
 
 -- 1, 3, 4, 6, 7 and 25 pass
-ready-entered : (u : Setup) (s : State) (count : ℕ) (bytes page : List ℕ) → Ready u s count page → length bytes ≡ 16
+ready-entered : (u : Setup) (s : State) (count : ℕ) (bytes page : List ℕ) → Ready u s (suc count) page → length bytes ≡ 16
     → first-broken (entry-rules u s bytes page) ≡ Taken
 unfolding entry-rules state-rules
 ready-entered u s count bytes page e h =
-    rw (eq-eqb (length bytes) 16 h, e .period, e .grade, e .table, eq-eqb (length page) (page-bytes (state-module s)) (e .lent), fits-admitted s (e .able .state))
+    rw (sixteen-pass (state-module s) bytes h, e .period, e .grade, e .table, eq-eqb (length page) (page-bytes (state-module s)) (e .lent), fits-admitted s (e .able .state (omega arith)))
 
 -- a taken record leaves the same for one record less
 ready-next : (u : Setup) (s : State) (k : ℕ) (bytes page : List ℕ) → Ready u s (suc k) page → ask u s (record-for s bytes) ≡ Taken
@@ -134,62 +138,131 @@ module _ (u : Setup) (s : State) (k : ℕ) (bytes page beats : List ℕ) where
 
 -- ── Call after call ──
 
-ready-walk : (u : Setup) (s : State) (count : ℕ) (bytes page beats : List ℕ) → length bytes ≡ 16 * count → Ready u s count page
-    → walk u s count bytes page beats ≡ fold u s (records-of (state-module s) count bytes) page beats
-unfolding walk fold records-of next core-after core-from
-ready-walk u s zero bytes page beats h e = refl
-ready-walk u s (suc k) bytes page beats h e =
-    go (ask u s r) refl
-    (λ p. ready-walk u (next u s r) k (drop 16 bytes) (page-next s r page) (put-line (s .core .number) (line s r) beats) rest (ready-next u s k (take 16 bytes) page e p))
+walk-none : (u : Setup) (s : State) (bytes page beats : List ℕ) → walk u s 0 bytes page beats ≡ left (ran Taken (s .core .number)) page beats
+unfolding walk
+walk-none u s bytes page beats = refl
+
+-- so many records, and so many after them
+longer : ℕ → ℕ → ℕ
+longer zero more = more
+longer (suc k) more = suc (longer k more)
+
+longer-is : (k more : ℕ) → longer k more ≡ k + more
+longer-is zero more = sym (zero-add more)
+longer-is (suc k) more = ap suc (longer-is k more) ∙ sym (suc-add k more)
+
+-- the walk over `count` records and `more` after them, up to record number `total`: the fold over the first, then `after`, which what
+-- the calls give at that number must be, and which leaves a refusal as it is
+module _ (u : Setup) (more total : ℕ) (after : Left → Left)
+    (refusal : (n i k : ℕ) (page beats : List ℕ) → after (left (ran (Refused n i) k) page beats) ≡ left (ran (Refused n i) k) page beats)
+    (base : (s : State) (bytes page beats : List ℕ) → length bytes ≡ 16 * more → Ready u s 0 page → s .core .number ≡ total
+    → walk u s more bytes page beats ≡ after (left (ran Taken (s .core .number)) page beats)) where
+  ready-walk : (s : State) (count : ℕ) (bytes page beats : List ℕ) → length bytes ≡ 16 * longer count more → Ready u s count page
+      → s .core .number + count ≡ total
+      → walk u s (longer count more) bytes page beats ≡ after (fold u s (records-of (state-module s) count bytes) page beats)
+  unfolding walk fold records-of next core-after core-from
+  ready-walk s zero bytes page beats h e k = base s bytes page beats h e (omega (arith, k))
+  ready-walk s (suc c) bytes page beats h e k =
+      go (ask u s r) refl
+      (λ p.
+      ready-walk (next u s r) c (drop 16 bytes) (page-next s r page) (put-line (s .core .number) (line s r) beats) rest
+      (ready-next u s c (take 16 bytes) page e p) (omega (arith, k, next-number u s r)))
+    where
+      r : Record
+      r = record-for s (take 16 bytes)
+
+      rest : length (drop 16 bytes) ≡ 16 * longer c more
+      rest = simp length-drop (omega (arith, h))
+
+      enter : first-broken (entry-rules u s (take 16 bytes) page) ≡ Taken
+      enter = ready-entered u s c (take 16 bytes) page e (length-take-le 16 bytes (omega (arith, h)))
+
+      go : (v : Verdict) → ask u s r ≡ v
+          → (ask u s r ≡ Taken
+          → walk u (next u s r) (longer c more) (drop 16 bytes) (page-next s r page) (put-line (s .core .number) (line s r) beats)
+          ≡ after (fold u (next u s r) (records-of (state-module s) c (drop 16 bytes)) (page-next s r page) (put-line (s .core .number) (line s r) beats)))
+          → walk u s (suc (longer c more)) bytes page beats
+          ≡ after (fold u s (r ∷ records-of (state-module s) c (drop 16 bytes)) page beats)
+      go Taken p ih =
+          asked-taken u s (longer c more) bytes page beats enter p
+          ∙ ih p
+          ∙ ap after (sym (fold-taken u s r (records-of (state-module s) c (drop 16 bytes)) page beats p))
+      go (Refused n i) p ih =
+          asked-refused u s (longer c more) bytes page beats enter n i p
+          ∙ sym (refusal n i (s .core .number) page beats)
+          ∙ ap after (sym (fold-refused u s r (records-of (state-module s) c (drop 16 bytes)) page beats n i p))
+
+-- ── A record number above 2^41 ──
+
+too-many : (s : State) → s .core .number ≡ suc number-max → fits s ≡ false
+too-many s e = go (fits s) refl
   where
-    r : Record
-    r = record-for s (take 16 bytes)
+    go : (x : Bool) → fits s ≡ x → fits s ≡ false
+    go true h = absurd (omega (arith, admitted s h .core .number, e))
+    go false h = h
 
-    rest : length (drop 16 bytes) ≡ 16 * k
-    rest = simp length-drop (omega (arith, h))
-
-    enter : first-broken (entry-rules u s (take 16 bytes) page) ≡ Taken
-    enter = ready-entered u s (suc k) (take 16 bytes) page e (length-take-le 16 bytes (omega (arith, h)))
-
-    go : (v : Verdict) → ask u s r ≡ v
-        → (ask u s r ≡ Taken
-        → walk u (next u s r) k (drop 16 bytes) (page-next s r page) (put-line (s .core .number) (line s r) beats)
-        ≡ fold u (next u s r) (records-of (state-module s) k (drop 16 bytes)) (page-next s r page) (put-line (s .core .number) (line s r) beats))
-        → walk u s (suc k) bytes page beats ≡ fold u s (r ∷ records-of (state-module s) k (drop 16 bytes)) page beats
-    go Taken p ih =
-        asked-taken u s k bytes page beats enter p ∙ ih p ∙ sym (fold-taken u s r (records-of (state-module s) k (drop 16 bytes)) page beats p)
-    go (Refused n i) p ih =
-        asked-refused u s k bytes page beats enter n i p ∙ sym (fold-refused u s r (records-of (state-module s) k (drop 16 bytes)) page beats n i p)
+-- the call after the last record that may be judged gives 25, and reports record 0
+twenty-five : (u : Setup) (more : ℕ) (s : State) (bytes page beats : List ℕ) → length bytes ≡ 16 * suc more → Ready u s 0 page
+    → s .core .number ≡ suc number-max
+    → walk u s (suc more) bytes page beats ≡ past-room (left (ran Taken (s .core .number)) page beats)
+unfolding walk entry-rules state-rules
+twenty-five u more s bytes page beats h e k =
+    let long : length (take 16 bytes) ≡ 16 = length-take-le 16 bytes (omega (arith, h)) in
+    let p : first-broken (entry-rules u s (take 16 bytes) page) ≡ Refused 25 0 =
+    rw (sixteen-pass (state-module s) (take 16 bytes) long, e .period, e .grade, e .table, eq-eqb (length page) (page-bytes (state-module s)) (e .lent), too-many s k)
+    in
+    rw (entry-refused u s (take 16 bytes) page 25 0 p)
 
 -- ── From what the call of many records tries before its first ──
 
-ready : (u : Setup) (s : State) (count bytes : ℕ) (page : List ℕ) → bytes ≡ 16 * count
-    → first-broken (records-rules u s bytes (length page)) ≡ Taken → Ready u s count page
+-- what the call tries before its first record is ready for as many records as may be judged
+ready : (u : Setup) (s : State) (bytes : ℕ) (page : List ℕ) → first-broken (records-rules u s bytes (length page)) ≡ Taken
+    → Ready u s (at-most (bytes / 16) (room s)) page
 unfolding records-rules state-rules
-ready u s count bytes page h p =
+ready u s bytes page p =
     let l = records-rules u s bytes (length page) in
-    let n : bytes / 16 ≡ count = omega (arith, h) in
     record {
-      able = subst (λ (c : ℕ). Able u s c) n (entry-of u s bytes (length page) p .able);
+      able = entry-of u s bytes (length page) p .able;
       period = kept 3 0 l p;
       grade = kept 4 0 l p;
       table = kept 6 0 l p;
       lent = eqb-true (length page) (page-bytes (state-module s)) (kept 7 0 l p);
     }
 
--- THE ONE-RECORD CALL ON EACH RECORD IN TURN IS THE FOLD, where 1, 3, 4, 6, 7 and 25 pass before the first
-pub walk-fold : (u : Setup) (s : State) (count : ℕ) (bytes page beats : List ℕ) → length bytes ≡ 16 * count
-    → first-broken (records-rules u s (length bytes) (length page)) ≡ Taken
-    → walk u s count bytes page beats ≡ fold u s (records-of (state-module s) count bytes) page beats
-walk-fold u s count bytes page beats h p = ready-walk u s count bytes page beats h (ready u s count (length bytes) page h p)
-
--- and so the call of many records
+-- THE ONE-RECORD CALL ON EACH RECORD IN TURN IS THE CALL OF MANY RECORDS, where 1, 3, 4, 6, 7 and 25 pass before the first
 pub walk-records : (u : Setup) (s : State) (bytes page beats : List ℕ)
     → first-broken (records-rules u s (length bytes) (length page)) ≡ Taken
     → walk u s (length bytes / 16) bytes page beats ≡ records-call u s bytes page beats
-walk-records u s bytes page beats p =
-    let h : length bytes ≡ 16 * (length bytes / 16) = omega (arith, entry-of u s (length bytes) (length page) p .whole) in
-    walk-fold u s (length bytes / 16) bytes page beats h p ∙ sym (records-entered u s bytes page beats p)
+walk-records u s bytes page beats p = go (leb count (room s)) refl
+  where
+    count : ℕ
+    count = length bytes / 16
+
+    e : Entry u s (length bytes)
+    e = entry-of u s (length bytes) (length page) p
+
+    whole : length bytes ≡ 16 * count
+    whole = omega (arith, e .whole)
+
+    some : (x : Bool) → leb count (room s) ≡ x → Ready u s (cond x count (room s)) page
+    some x t = subst (λ (y : Bool). Ready u s (cond y count (room s)) page) t (ready u s (length bytes) page p)
+
+    go : (x : Bool) → leb count (room s) ≡ x → walk u s count bytes page beats ≡ records-call u s bytes page beats
+    go true t =
+        let n : longer count 0 ≡ count = longer-is count 0 ∙ omega arith in
+        ap (λ (k : ℕ). walk u s k bytes page beats) (sym n)
+        ∙ ready-walk u 0 (s .core .number + count) (λ l. l) (λ n i k page beats. refl) (λ r b pg bt h q k. walk-none u r b pg bt) s count bytes page beats
+        (omega (arith, whole, n)) (some true t) refl
+        ∙ sym (records-entered u s bytes page beats p t)
+    go false t =
+        let over : room s < count = leb-false count (room s) t in
+        let left-over : suc (count - suc (room s)) ≡ count - room s = omega (arith, over) in
+        let n : longer (room s) (suc (count - suc (room s))) ≡ count = longer-is (room s) (suc (count - suc (room s))) ∙ omega (arith, over) in
+        ap (λ (k : ℕ). walk u s k bytes page beats) (sym n)
+        ∙ ready-walk u (suc (count - suc (room s))) (suc number-max) past-room (λ n i k page beats. refl)
+        (λ r b pg bt h q k. twenty-five u (count - suc (room s)) r b pg bt h q k) s (room s) bytes page beats
+        (omega (arith, whole, n)) (some false t) (omega (arith, e .number))
+        ∙ sym (records-past u s bytes page beats p t)
 
 -- AND, FROM A TRACE'S START STATE, THE WHOLE-TRACE JUDGE, where 1 to 7 pass
 pub walk-whole : (u : Setup) (trace page beats : List ℕ) → entry u trace page ≡ Taken

@@ -13,11 +13,11 @@ use Rattle.rules.specs.declared.Verdict.the-variants.{Taken, Refused}
 use Rattle.rules.specs.Numbers.{first-broken}
 use Rattle.rules.specs.Run.{Line, page-after}
 use Rattle.rules.proofs.Runs.{reports}
-use Rattle.hawsehole.specs.Trace.{Judged, whole-rules, start-of, records, run-of, page-of, judged, refused, judge, page-when}
+use Rattle.hawsehole.specs.Trace.{Judged, trace-rules, start-of, records, run-of, page-of, judged, refused, judge, page-when}
 
 -- what is found before the first record
 abbrev pub entry : Setup → List ℕ → List ℕ → Verdict
-entry u trace page = first-broken (whole-rules u (header-of trace) (length trace) (length page))
+entry u trace page = first-broken (trace-rules u trace (length page))
 
 pub judge-entered : (u : Setup) (trace page : List ℕ) → entry u trace page ≡ Taken → judge u trace page ≡ judged trace page (run-of u trace)
 unfolding judge

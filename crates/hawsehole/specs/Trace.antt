@@ -1,8 +1,7 @@
 -- A whole trace from its bytes: verdicts 1 to 7, then record after record; verdict, beats and page (01, Verdicts). Definitions only.
 use Prim.Native.Nat.{ℕ, _+_, _*_}
-use mathlib.Core.Bool.{Bool, _&&_}
 use mathlib.Core.List.{List, [], _∷_}
-use lib.Dec.{leb, eqb}
+use lib.Dec.{eqb}
 use lib.ListN.{length, take, drop}
 use Rattle.units.specs.declared.Module.{Module}
 use Rattle.units.specs.Module.{page-bytes, module-of}
@@ -10,7 +9,7 @@ use Rattle.units.specs.Time.{time}
 use Rattle.speed.specs.Table.{table-fits}
 use Rattle.layout.specs.declared.Header.{Header}
 use Rattle.layout.specs.declared.Record.{Record}
-use Rattle.layout.specs.Bytes.{header-of, records-of}
+use Rattle.layout.specs.Bytes.{header-of, read-header, header-number, records-of}
 use Rattle.rules.specs.declared.State.{State}
 use Rattle.rules.specs.declared.Setup.{Setup}
 use Rattle.rules.specs.declared.Verdict.{Verdict}
@@ -20,10 +19,6 @@ use Rattle.rules.specs.Parts.{start}
 use Rattle.rules.specs.Run.{Line, Run, run, page-after}
 use Rattle.rules.specs.OneRecord.{period-fits, grade-known}
 
--- "length not 16 + 16 x count"
-abbrev pub whole : Header → ℕ → Bool
-whole h bytes = leb 16 bytes && eqb bytes (16 + 16 * h .count)
-
 -- 5, 6 and 7, with a page of so many bytes
 unfoldable pub lent-rules : Setup → Header → ℕ → List Rule
 lent-rules u h lent =
@@ -32,14 +27,19 @@ lent-rules u h lent =
     ∷ rule 7 0 (eqb lent (page-bytes (module-of (h .grade))))
     ∷ []
 
--- rows 1 to 7, for a trace of so many bytes with this header
+-- rows 1 to 7, for a trace of so many bytes with this header: "length not 16 + 16 x count"
 unfoldable pub whole-rules : Setup → Header → ℕ → ℕ → List Rule
 whole-rules u h bytes lent =
-    rule 1 0 (whole h bytes)
+    rule 1 0 (eqb bytes (16 + 16 * h .count))
     ∷ rule 2 0 (eqb (h .version) 1)
     ∷ rule 3 0 (period-fits (time (h .period)))
     ∷ rule 4 0 (grade-known (h .grade))
     ∷ lent-rules u h lent
+
+-- the same from the trace's bytes: "under 16 bytes" there is no header
+abbrev pub trace-rules : Setup → List ℕ → ℕ → List Rule
+trace-rules u trace lent =
+    rule 1 0 (eqb (header-number (read-header trace)) 0) ∷ whole-rules u (header-of trace) (length trace) lent
 
 -- verdict, reported record, a line for each record taken, and the page left
 pub record Judged : Type 0 where
@@ -77,7 +77,7 @@ refused n i page = record { verdict = Refused n i; reported = 0; lines = []; pag
 
 unfoldable pub judge : Setup → List ℕ → List ℕ → Judged
 judge u trace page =
-    elim (first-broken (whole-rules u (header-of trace) (length trace) (length page))) [
+    elim (first-broken (trace-rules u trace (length page))) [
       | Taken ↦ judged trace page (run-of u trace)
       | Refused n i ↦ refused n i page
     ]

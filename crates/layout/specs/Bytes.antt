@@ -74,9 +74,19 @@ record-of m bytes = record-from m (word-at bytes 0) (word-at bytes 8)
 unfoldable pub read-header : List ℕ → HeaderBytes
 read-header bytes = cond (leb 16 (length bytes)) (Headed (header-of bytes)) TooShort
 
+-- this paper's number of what reading a header answers: "under 16 bytes" is 1
+abbrev pub header-number : HeaderBytes → ℕ
+header-number (Headed h) = 0
+header-number TooShort = 1
+
 -- a record's bytes: "a record not 16 bytes long" is none
 unfoldable pub read-record : Module → List ℕ → RecordBytes
 read-record m bytes = cond (eqb (length bytes) 16) (Whole (record-of m bytes)) WrongLength
+
+-- this paper's number of what reading a record answers: "a record not 16 bytes long gives 1"
+abbrev pub record-number : RecordBytes → ℕ
+record-number (Whole r) = 0
+record-number WrongLength = 1
 
 -- so many records, 16 bytes each
 unfoldable pub records-of : Module → ℕ → List ℕ → List Record

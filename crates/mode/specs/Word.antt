@@ -30,9 +30,9 @@ latency w = w / 16 % 8
 abbrev pub single : ℕ → Bool
 single w = eqb (w / 512 % 2) 1
 
--- "full page, M3 = 0 only", and only of a module that has it. "CL 2 or 3. M7, M8, M10 to M12 zero. All else is 17"
-abbrev pub legal : Module → ℕ → Bool
-legal m w =
+-- "full page, M3 = 0 only", and only of a module that has it. "CL 2 or 3. M7, M8, M10 to M12 zero"
+abbrev pub well-formed : Module → ℕ → Bool
+well-formed m w =
     (ltb (w % 8) 4 || (has-full-page m && full-page w && not (interleaved w)))
     && (eqb (latency w) 2 || eqb (latency w) 3)
     && eqb (w / 128 % 4) 0
@@ -49,8 +49,17 @@ mode-of w =
     }
 
 -- a mode word as what decoding it answers
-unfoldable pub decoded : Module → ℕ → Decoded
-decoded m w = cond (legal m w) (Known (mode-of w)) Reserved
+abbrev pub decoded : Module → ℕ → Decoded
+decoded m w = cond (well-formed m w) (Known (mode-of w)) Reserved
+
+-- this paper's number of what decoding answers: "All else is 17"
+abbrev pub decoded-number : Decoded → ℕ
+decoded-number (Known mode) = 0
+decoded-number Reserved = 17
+
+-- a word that is not reserved
+abbrev pub legal : Module → ℕ → Bool
+legal m w = eqb (decoded-number (decoded m w)) 0
 
 -- how long a WRITE's burst is
 abbrev pub write-length : ℕ → ℕ

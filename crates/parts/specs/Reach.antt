@@ -1,5 +1,5 @@
 -- What the functions behind the one-record call may rely on: its own checks 3, 6 and 25 (its clocks and times), as facts. Definitions only.
-use Prim.Native.Nat.{ℕ, _+_, _^_, _≤_}
+use Prim.Native.Nat.{ℕ, suc, _+_, _^_, _≤_, _<_}
 use mathlib.Core.List.{List}
 use Rattle.units.specs.declared.Clock.{Clock}
 use Rattle.units.specs.declared.Ps.{Ps}
@@ -37,9 +37,9 @@ pub record Call (t : SpeedTable) (c : Core) (bs : List Bank) (r : Record) : Type
   pub banks : BanksFit bs
   pub widths : Widths r
 
--- a state from which so many records may still be judged
+-- a state from which so many records may still be judged; the last of them may have number 2^41, and after it none is judged
 pub record Able (u : Setup) (s : State) (count : ℕ) : Type 0 where
   pub table : Bounds (u .table)
   pub period : FitPeriod (s .core .period)
-  pub state : Admitted s
-  pub room : s .core .number + count ≤ number-max
+  pub state : 0 < count → Admitted s
+  pub room : s .core .number + count ≤ suc number-max

@@ -8,7 +8,7 @@ use Rattle.units.specs.declared.Ps.{Ps}
 use Rattle.units.specs.Module.{page-bytes}
 use Rattle.speed.specs.Table.{table-fits}
 use Rattle.layout.specs.declared.Record.{Record}
-use Rattle.layout.specs.Bytes.{record-of}
+use Rattle.layout.specs.Bytes.{record-of, read-record, record-number}
 use Rattle.bursts.specs.declared.Beat.{Beat}
 use Rattle.bursts.specs.declared.Beat.the-variants.{Quiet}
 use Rattle.rules.specs.declared.State.{State}
@@ -46,7 +46,8 @@ state-rules u s lent =
 
 -- "A record not 16 bytes long gives 1, then 3, 6, 7, 25", with 4 at its place: what is tried before the record is looked at
 unfoldable pub entry-rules : Setup → State → List ℕ → List ℕ → List Rule
-entry-rules u s bytes page = rule 1 0 (eqb (length bytes) 16) ∷ state-rules u s (length page)
+entry-rules u s bytes page =
+    rule 1 0 (eqb (record-number (read-record (state-module s) bytes)) 0) ∷ state-rules u s (length page)
 
 -- the record that these bytes are to the state's module
 abbrev pub record-for : State → List ℕ → Record

@@ -12,7 +12,7 @@ use Rattle.speed.specs.declared.SpeedTable.{SpeedTable}
 use Rattle.speed.specs.Table.{table, grade-133, table-fits}
 use Rattle.units.specs.Module.{module-of}
 use Rattle.layout.specs.Commands.{column-on}
-use Rattle.layout.specs.Bytes.{has-pins, lane-masks, record-from}
+use Rattle.layout.specs.Bytes.{has-pins, lane-masks, record-from, read-record}
 use Rattle.mode.specs.Word.{length-of}
 use Rattle.mode.specs.Order.{beat-column}
 use Rattle.bursts.specs.declared.Burst.{Burst}
@@ -291,7 +291,7 @@ cases =
     ∷ []
 
 pub cases-right : T (all-right cases)
-unfolding module-of column-on has-pins lane-masks table-fits record-from length-of beat-column has-beat write-beat read-beat finished masks-on masks-after reads-from bus-after beat-on bursts-finished driven bus-clear put-lanes stored allowed banks-found of-closing of-any of-active of-access of-precharged of-precharge of-idle events minima every-rules place-rules minimum-rules mode-rules bus-rules command-rules rules ask startup-after beat core-from core-after bank-after commanded mark-banks banks-after next bank-fits burst-fits core-fits fits state-rules entry-rules judged step
+unfolding module-of column-on has-pins lane-masks table-fits record-from read-record length-of beat-column has-beat write-beat read-beat finished masks-on masks-after reads-from bus-after beat-on bursts-finished driven bus-clear put-lanes stored allowed banks-found of-closing of-any of-active of-access of-precharged of-precharge of-idle events minima every-rules place-rules minimum-rules mode-rules bus-rules command-rules rules ask startup-after beat core-from core-after bank-after commanded mark-banks banks-after next bank-fits burst-fits core-fits fits state-rules entry-rules judged step
 cases-right = tt
 
 -- ── 25 by the module: which places a state may hold ──

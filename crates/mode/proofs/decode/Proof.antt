@@ -1,6 +1,6 @@
 -- `mode::decode` meets its contract: its callees' answers are the definition's. Assumes nothing.
 use borrow.Author.Needs.{needs}
-use Rattle.mode.specs.Word.{decoded}
+use Rattle.mode.proofs.Shown.{legal-is}
 use Rattle.mode.proofs.decode.Statement.{statement}
 use Rattle.mode.proofs.decode.Tie as tie
 
@@ -23,12 +23,10 @@ single-requires : tie.Need-single-requires
 single-requires c κs = search needs
 
 returns : tie.Need-returns
-unfolding decoded
-returns c = rw (c .single .ensures, c .before .latency .ensures, c .before .before .interleaved .ensures, c .before .before .before .full-page .ensures, c .before .before .before .before .length-of .ensures, ← c .before .before .before .before .before .before .legal .ensures, c .before .before .before .before .before .if1 .taken)
+returns c = rw (c .single .ensures, c .before .latency .ensures, c .before .before .interleaved .ensures, c .before .before .before .full-page .ensures, c .before .before .before .before .length-of .ensures, ← legal-is _ _, ← c .before .before .before .before .before .before .legal .ensures, c .before .before .before .before .before .if1 .taken)
 
 returns-2 : tie.Need-returns-2
-unfolding decoded
-returns-2 c = rw (← c .before .legal .ensures, c .if1 .left)
+returns-2 c = rw (← legal-is _ _, ← c .before .legal .ensures, c .if1 .left)
 
 pub decode-spec : {M : Type 1} → statement M
 decode-spec =

@@ -1,5 +1,6 @@
 -- `mode::legal` meets its contract: its callees' answers are the definition's. Assumes nothing.
 use borrow.Author.Needs.{needs}
+use Rattle.mode.proofs.Shown.{legal-is}
 use Rattle.mode.proofs.legal.Statement.{statement}
 use Rattle.mode.proofs.legal.Tie as tie
 
@@ -16,7 +17,7 @@ full-page-requires : tie.Need-full-page-requires
 full-page-requires c κs = search needs
 
 returns : tie.Need-returns
-returns c = rw (c .before .before .before .has-full-page .ensures, c .before .before .latency .ensures, c .before .interleaved .ensures, c .full-page .ensures)
+returns c = rw (legal-is _ _, c .before .before .before .has-full-page .ensures, c .before .before .latency .ensures, c .before .interleaved .ensures, c .full-page .ensures)
 
 pub legal-spec : {M : Type 1} → statement M
 legal-spec = tie.close (tie.spec has-full-page-requires latency-requires interleaved-requires full-page-requires returns)

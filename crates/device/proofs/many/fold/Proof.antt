@@ -42,10 +42,7 @@ use Rattle.device.specs.InPlace.{words-ahead, whole, core-of, state-of}
 use Rattle.device.proofs.Ahead.{words-read}
 use Rattle.device.proofs.InPlace.{bus-ended, bus-left, startup-kept, banks-kept, Settled, settled}
 use Rattle.device.proofs.Folds.{able-call, asked-as, goes-on, stays-able, stops}
-use Rattle.device.proofs.many.fold.Statement.{statement}
-use Rattle.device.proofs.many.fold.Tie as tie
 use Rattle.device.proofs.many.fold.Reads as reads
-use Rattle.device.proofs.many.fold.Lts as lts
 use Rattle.bursts.proofs.Masks.after.Reads as after-reads
 use Rattle.bursts.proofs.databus.beat_on.Reads as beat-on-reads
 use Rattle.bursts.proofs.reads.can_end.Reads as can-end-reads
@@ -64,6 +61,8 @@ use Rattle.packed.proofs.inplace.move_bus.Reads as move-bus-reads
 use Rattle.page.proofs.stored.Reads as stored-reads
 use Rattle.parts.proofs.time.clock_of.Reads as clock-of-reads
 use Rattle.taking.proofs.leaving.startup_after.Reads as startup-after-reads
+use Rattle.device.proofs.many.fold.Statement.{statement}
+use Rattle.device.proofs.many.fold.Tie as tie
 
 abbrev setup-of : SpeedTable → Setup
 setup-of t = record { table = t }
@@ -115,7 +114,7 @@ module _ (c : tie.After-record-from Inv-loop μ-loop) where
   widths = subst (λ (x : Record). Widths x) (sym read) (record-fits (core-module core-at) part)
 
   call : Call (setup .table) (st .core) (st .banks) rec
-  call = able-call (c .before .before .loop .inv .4) rec widths
+  call = able-call (c .before .before .loop .inv .4) (omega (arith, c .before .loop-test .taken)) rec widths
 
 -- ── One that may stand ──
 
@@ -243,7 +242,7 @@ record-from-requires : tie.Need-record-from-requires Inv-loop μ-loop
 record-from-requires c κs = search needs
 
 clock-of-requires : tie.Need-clock-of-requires Inv-loop μ-loop
-clock-of-requires c κs = c .before .before .loop .inv .4 .state .core .last
+clock-of-requires c κs = call c .core .last
 
 core-of-requires : tie.Need-core-of-requires Inv-loop μ-loop
 core-of-requires c κs = search needs
@@ -253,7 +252,7 @@ ask-requires c κs =
     let r = c .before .before .before in
     subst (λ (x : Core). Call (setup r .table) x (st r .banks) (rec r) × Reach (x .period) (c .before .before .clock-of .result)) (sym (c .before .core-of .ensures)) (
       call r,
-      clock-reach (c .before .before .before .before .before .loop .last) (rec r .skipped) (c .before .before .before .before .before .loop .inv .4 .state .core .last) (widths r .skipped) (c .before .before .before .before .before .loop .inv .4 .period) (c .before .before .clock-of .ensures),
+      clock-reach (c .before .before .before .before .before .loop .last) (rec r .skipped) (call r .core .last) (widths r .skipped) (c .before .before .before .before .before .loop .inv .4 .period) (c .before .before .clock-of .ensures),
     )
 
 enum-told : tie.Need-enum-told Inv-loop μ-loop
@@ -315,7 +314,7 @@ stored-requires : tie.Need-stored-requires Inv-loop μ-loop
 stored-requires c κs = search needs
 
 report-requires : tie.Need-report-requires Inv-loop μ-loop
-report-requires c κs = omega (arith, c .before .before .before .before .before .before .before .before .before .before .before .before .before .before .before .before .before .before .before .before .before .before .before .before .before .loop .inv .4 .room)
+report-requires c κs = omega (arith, c .before .before .before .before .before .before .before .before .before .before .before .before .before .before .before .before .before .before .before .before .before .before .before .before .before .loop .inv .4 .room, c .before .before .before .before .before .before .before .before .before .before .before .before .before .before .before .before .before .before .before .before .before .before .before .before .loop-test .taken)
 
 add-number : tie.Need-add-number Inv-loop μ-loop
 add-number c = record { fits = omega (arith, c .before .before .before .before .before .before .before .before .before .before .before .before .before .before .before .before .before .before .before .before .before .before .before .before .before .before .before .before .loop .inv .4 .room) }
