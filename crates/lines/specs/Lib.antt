@@ -1,3 +1,4 @@
 pub mod Text
 pub mod Place
 pub mod Printed
+pub mod Cases
