@@ -3,3 +3,5 @@ pub mod Numbers
 pub mod Walk
 pub mod Printed
 pub mod ModuleCases
+pub mod Traces
+pub mod WholeCases
