@@ -5,3 +5,4 @@ pub mod Printed
 pub mod ModuleCases
 pub mod Traces
 pub mod WholeCases
+pub mod NumberCases
