@@ -9,7 +9,7 @@ use Rattle.units.specs.Facts.{all-true, same-numbers}
 use Rattle.units.specs.Module.{module-of}
 use Rattle.speed.specs.Table.{table, grade-13E, grade-133, table-fits}
 use Rattle.layout.specs.Commands.{column-on}
-use Rattle.layout.specs.Bytes.{has-pins, lane-masks, header-from, record-from, records-of}
+use Rattle.layout.specs.Bytes.{has-pins, lane-masks, header-from, read-header, record-from, records-of}
 use Rattle.mode.specs.Word.{length-of}
 use Rattle.mode.specs.Order.{beat-column}
 use Rattle.bursts.specs.Burst.{has-beat, write-beat, read-beat, finished}
@@ -184,5 +184,5 @@ calls-for-c =
     ∷ []
 
 pub calls-right : T (all-true calls-for-c)
-unfolding beat-word put-line lines-into answer-word whole-call judge-beats judge-alone module-of column-on has-pins lane-masks judge whole-rules lent-rules table-fits header-from record-from records-of length-of beat-column has-beat write-beat read-beat finished masks-on masks-after reads-from bus-after beat-on bursts-finished driven bus-clear put-lanes stored allowed banks-found of-closing of-any of-active of-access of-precharged of-precharge of-idle events minima every-rules place-rules minimum-rules mode-rules bus-rules command-rules rules ask startup-after beat core-from core-after bank-after commanded mark-banks banks-after next run page-after
+unfolding beat-word put-line lines-into answer-word whole-call judge-beats judge-alone module-of column-on has-pins lane-masks judge whole-rules lent-rules table-fits header-from read-header record-from records-of length-of beat-column has-beat write-beat read-beat finished masks-on masks-after reads-from bus-after beat-on bursts-finished driven bus-clear put-lanes stored allowed banks-found of-closing of-any of-active of-access of-precharged of-precharge of-idle events minima every-rules place-rules minimum-rules mode-rules bus-rules command-rules rules ask startup-after beat core-from core-after bank-after commanded mark-banks banks-after next run page-after
 calls-right = tt

@@ -7,7 +7,7 @@ use Rattle.units.specs.Time.{clock}
 use Rattle.speed.specs.Table.{table-fits}
 use Rattle.units.specs.Module.{module-of}
 use Rattle.layout.specs.Commands.{column-on}
-use Rattle.layout.specs.Bytes.{has-pins, lane-masks, header-from, record-from, records-of}
+use Rattle.layout.specs.Bytes.{has-pins, lane-masks, header-from, read-header, record-from, records-of}
 use Rattle.mode.specs.Word.{length-of}
 use Rattle.mode.specs.Order.{beat-column}
 use Rattle.bursts.specs.declared.Beat.{Beat}
@@ -90,12 +90,12 @@ clean page = record { verdict = Taken; reported = 8; lines = printed-lines; page
 
 -- THE PRINTED CASE: "DQ bits not named are 0", over a page of FF so that each stored byte shows
 pub printed : judge with-133 (bytes zeros zeros) (replicate 16384 255) ≡ clean (page-with (replicate 4 0) (replicate 8 0))
-unfolding module-of column-on has-pins lane-masks judge whole-rules lent-rules table-fits header-from record-from records-of length-of beat-column has-beat write-beat read-beat finished masks-on masks-after reads-from bus-after beat-on bursts-finished driven bus-clear put-lanes stored allowed banks-found of-closing of-any of-active of-access of-precharged of-precharge of-idle events minima every-rules place-rules minimum-rules mode-rules bus-rules command-rules rules ask startup-after beat core-from core-after bank-after commanded mark-banks banks-after next run page-after
+unfolding module-of column-on has-pins lane-masks judge whole-rules lent-rules table-fits header-from read-header record-from records-of length-of beat-column has-beat write-beat read-beat finished masks-on masks-after reads-from bus-after beat-on bursts-finished driven bus-clear put-lanes stored allowed banks-found of-closing of-any of-active of-access of-precharged of-precharge of-idle events minima every-rules place-rules minimum-rules mode-rules bus-rules command-rules rules ask startup-after beat core-from core-after bank-after commanded mark-banks banks-after next run page-after
 printed = refl
 
 -- the same with data: lane 0 is the record's last byte
 pub printed-data :
     judge with-133 (bytes (8 ∷ 7 ∷ 6 ∷ 5 ∷ 4 ∷ 3 ∷ 2 ∷ 1 ∷ []) (24 ∷ 23 ∷ 22 ∷ 21 ∷ 20 ∷ 19 ∷ 18 ∷ 17 ∷ [])) (replicate 16384 255)
     ≡ clean (page-with (17 ∷ 18 ∷ 19 ∷ 20 ∷ []) (1 ∷ 2 ∷ 3 ∷ 4 ∷ 5 ∷ 6 ∷ 7 ∷ 8 ∷ []))
-unfolding module-of column-on has-pins lane-masks judge whole-rules lent-rules table-fits header-from record-from records-of length-of beat-column has-beat write-beat read-beat finished masks-on masks-after reads-from bus-after beat-on bursts-finished driven bus-clear put-lanes stored allowed banks-found of-closing of-any of-active of-access of-precharged of-precharge of-idle events minima every-rules place-rules minimum-rules mode-rules bus-rules command-rules rules ask startup-after beat core-from core-after bank-after commanded mark-banks banks-after next run page-after
+unfolding module-of column-on has-pins lane-masks judge whole-rules lent-rules table-fits header-from read-header record-from records-of length-of beat-column has-beat write-beat read-beat finished masks-on masks-after reads-from bus-after beat-on bursts-finished driven bus-clear put-lanes stored allowed banks-found of-closing of-any of-active of-access of-precharged of-precharge of-idle events minima every-rules place-rules minimum-rules mode-rules bus-rules command-rules rules ask startup-after beat core-from core-after bank-after commanded mark-banks banks-after next run page-after
 printed-data = refl
