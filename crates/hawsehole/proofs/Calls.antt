@@ -78,7 +78,8 @@ module _ (u : Setup) (trace page beats : List ℕ) (p : entry u trace page ≡ T
 
   -- no trace has so many records that one's number is above 2^41
   pub few : leb (length (drop 16 trace) / 16) (room (start-of (header-of trace))) ≡ true
-  few = le-leb _ _ (omega (arith, rest-long, header-fits trace .count))
+  few =
+      le-leb (length (drop 16 trace) / 16) (room (start-of (header-of trace))) (omega (arith, rest-long, header-fits trace .count))
 
   pub call-records : records-call u (start-of (header-of trace)) (drop 16 trace) page beats ≡ whole-call u trace page beats
   unfolding whole-call

@@ -143,7 +143,7 @@ unfolding walk
 walk-none u s bytes page beats = refl
 
 -- so many records, and so many after them
-longer : ℕ → ℕ → ℕ
+abbrev longer : ℕ → ℕ → ℕ
 longer zero more = more
 longer (suc k) more = suc (longer k more)
 
