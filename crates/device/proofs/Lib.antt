@@ -4,3 +4,4 @@ pub mod Starts
 pub mod Turns
 pub mod Folds
 pub mod FoldRun
+pub mod Demand3

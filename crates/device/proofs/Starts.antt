@@ -53,6 +53,13 @@ most-within count most = go (leb count most) refl
     go true e = omega arith
     go false e = omega (arith, leb-false count most e)
 
+pub most-room : (count most : ℕ) → at-most count most ≤ most
+most-room count most = go (leb count most) refl
+  where
+    go : (x : Bool) → leb count most ≡ x → cond x count most ≤ most
+    go true e = leb-true count most e
+    go false e = omega arith
+
 -- what a call that is entered may rely on
 pub record Entry (u : Setup) (s : State) (bytes : ℕ) : Type 0 where
   pub whole : bytes % 16 ≡ 0

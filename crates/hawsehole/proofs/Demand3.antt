@@ -17,6 +17,7 @@ use Rattle.rules.specs.Run.{Line, Run}
 use Rattle.rules.specs.Harder.{NowhereHarder}
 use Rattle.rules.proofs.Easier.{setup}
 use Rattle.rules.proofs.Demand3.{Follows, demand-3}
+use Rattle.hawsehole.specs.Demand3.{Demand3Holds}
 use Rattle.hawsehole.specs.Trace.{Judged, lent-rules, whole-rules, lent-rules, start-of, records, run-of, page-of, judged, refused, judge, page-when}
 use Rattle.hawsehole.proofs.Whole.{entry, judge-entered, judge-refused, page-is}
 
@@ -60,3 +61,14 @@ module _ {t u : SpeedTable} (e : NowhereHarder t u) (fit-t : table-fits t ≡ tr
       page-is (setup t) trace page
       ∙ ap (λ (l : List Line). page-of trace l page)
       (sym (ap (take (length (judge (setup t) trace page .lines))) (demand-3-whole .lines) ∙ take-at (judge (setup t) trace page .lines) (demand-3-whole .more) (length (judge (setup t) trace page .lines)) refl))
+
+-- DEMAND 3 HOLDS of the whole-trace judge
+pub demand-3-holds : Demand3Holds
+demand-3-holds t u e ft fu trace page =
+    let f = demand-3-whole e ft fu trace page in
+    record {
+      never-earlier = f .no-earlier;
+      beats-agree = ap (take (length (judge (setup t) trace page .lines))) (f .lines) ∙ take-at (judge (setup t) trace page .lines) (f .more) (length (judge (setup t) trace page .lines)) refl;
+      page-agrees = sym (page-at-stop e ft fu trace page);
+      clean = λ h. sym (f .clean h);
+    }

@@ -1,6 +1,7 @@
 pub mod Trace
 pub mod Numbers
 pub mod Walk
+pub mod Demand3
 pub mod Printed
 pub mod ModuleCases
 pub mod Traces

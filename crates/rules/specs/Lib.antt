@@ -12,6 +12,7 @@ pub mod Admitted
 pub mod OneRecord
 pub mod Report
 pub mod Harder
+pub mod Demand3
 pub mod Cases
 pub mod FurtherCases
 pub mod OrderCases
