@@ -278,6 +278,11 @@ tests =
     ∷ coming b100 100 gives (true ∷ true ∷ [])
     ∷ coming b100 0 gives (true ∷ true ∷ [])
     ∷ coming (from-100 0x22 0) 105 gives (true ∷ false ∷ [])
+    ∷ coming one 103 gives (true ∷ false ∷ [])
+    ∷ coming one 50 gives (true ∷ true ∷ [])
+    -- M9 leaves READs as long as they are
+    ∷ coming (from-100 0x233 0) 110 gives (true ∷ false ∷ [])
+    ∷ coming (from-100 0x237 0) 9_999 gives (true ∷ true ∷ [])
     ∷ coming (cut-at 102 b100) 104 gives (true ∷ false ∷ [])
     ∷ coming (cut-at 100 b100) 110 gives (true ∷ false ∷ [])
     ∷ coming (from-100 0x37 0) 9_999 gives (true ∷ true ∷ [])
@@ -387,6 +392,10 @@ cuts =
 abbrev odd : Event → Burst
 odd e = record { live = true; auto = true; bank = 3; row = 8191; column = 1029; start = clock 100; cut = e; word = 0x233 }
 
+-- one of bank 2
+abbrev second : Event → Burst
+second e = record { live = true; auto = false; bank = 2; row = 9; column = 0; start = clock 100; cut = e; word = 0x33 }
+
 abbrev bursts : List (Row Burst)
 bursts =
     no-burst
@@ -419,6 +428,7 @@ bursts =
     gives record { live = true; auto = true; bank = 2; row = 9; column = 5; start = clock 102; cut = Never; word = 0x31 }
     ∷ write-after Read (rec 0 Read 5 0) (clock 102) 0x31 9 (odd Never) gives odd (On (clock 102))
     ∷ write-after Precharge (rec 0 Precharge 0 0) (clock 102) 0x31 9 (odd Never) gives odd Never
+    ∷ write-after Precharge (rec 0 Precharge 0 0) (clock 102) 0x31 9 (second Never) gives second (On (clock 102))
     ∷ write-after Precharge (rec 0 Precharge 1024 0) (clock 102) 0x31 9 (odd Never) gives odd (On (clock 102))
     ∷ write-after Nop (rec 0 Nop 0 0) (clock 102) 0x31 9 (odd Never) gives odd Never
     ∷ []
@@ -468,6 +478,13 @@ reads-left =
     ∷ reads-from Write (clock 103) new (b103 ∷ b102 ∷ b101 ∷ b100 ∷ []) gives (b103 ∷ no-burst ∷ no-burst ∷ no-burst ∷ [])
     ∷ reads-from Nop (clock 110) new (b103 ∷ over ∷ b101 ∷ b100 ∷ []) gives (b103 ∷ over ∷ b101 ∷ b100 ∷ [])
     ∷ reads-from Terminate (clock 110) new (b103 ∷ over ∷ b101 ∷ b100 ∷ []) gives (b103 ∷ over ∷ b101 ∷ b100 ∷ [])
+    -- a PRECHARGE of bank 2, and of all
+    ∷ reads-after Precharge (rec 0 Precharge 0 0) (clock 102) 0x31 9 (b100 ∷ second Never ∷ []) gives (b100 ∷ second (On (clock 102)) ∷ [])
+    ∷ reads-after Precharge (rec 0 Precharge 1024 0) (clock 102) 0x31 9 (b100 ∷ second Never ∷ [])
+    gives (cut-at 102 b100 ∷ second (On (clock 102)) ∷ [])
+    -- a READ with auto precharge
+    ∷ reads-after Read (rec 0 Read 0x405 0) (clock 110) 0x31 9 []
+    gives (record { live = true; auto = true; bank = 2; row = 9; column = 5; start = clock 110; cut = Never; word = 0x31 } ∷ [])
     -- a READ cuts those before it: what they fetched is still to come, and they stay
     ∷ reads-after Read (rec 0 Read 5 0) (clock 110) 0x31 9 (b103 ∷ b102 ∷ no-burst ∷ b101 ∷ [])
     gives (new ∷ cut-at 110 b103 ∷ cut-at 110 b102 ∷ cut-at 110 b101 ∷ [])
@@ -558,7 +575,8 @@ beats =
     ∷ (read-on 105 (b100 ∷ b102 ∷ []) ∷ read-on 105 (b102 ∷ b100 ∷ []) ∷ []) gives Rs (16 ∷ 16 ∷ [])
     ∷ (read-on 106 (b102 ∷ b100 ∷ b103 ∷ b101 ∷ []) ∷ read-on 106 (b103 ∷ b102 ∷ b101 ∷ b100 ∷ []) ∷ read-on 106 (b100 ∷ b101 ∷ b102 ∷ b103 ∷ []) ∷ []) gives Rs (24 ∷ 24 ∷ 24 ∷ [])
     -- a later one without a beat there does not count
-    ∷ (read-on 104 (b100 ∷ b102 ∷ []) ∷ read-on 105 (b100 ∷ dead b102 ∷ []) ∷ read-on 106 (no-burst ∷ b100 ∷ no-burst ∷ over ∷ []) ∷ []) gives Rs (1 ∷ 2 ∷ 32 ∷ [])
+    ∷ (read-on 104 (b100 ∷ b102 ∷ []) ∷ read-on 104 (b102 ∷ b100 ∷ []) ∷ read-on 105 (b100 ∷ dead b102 ∷ []) ∷ []) gives Rs (1 ∷ 1 ∷ 2 ∷ [])
+    ∷ (read-on 106 (no-burst ∷ b100 ∷ no-burst ∷ over ∷ []) ∷ []) gives Rs (32 ∷ [])
     -- "of two registered on one clock the first"
     ∷ (read-on 103 (b100 ∷ eight 100 40 ∷ []) ∷ read-on 103 (eight 100 40 ∷ b100 ∷ []) ∷ read-on 105 (b100 ∷ eight 102 40 ∷ b102 ∷ []) ∷ []) gives Rs (0 ∷ 40 ∷ 40 ∷ [])
     ∷ (reads-beat (b100 ∷ []) 0x0f (clock 103) ∷ reads-beat [] 0 (clock 103) ∷ reads-beat no-reads 0 (clock 103) ∷ []) gives (R 0 0xf0 ∷ Quiet ∷ Quiet ∷ [])

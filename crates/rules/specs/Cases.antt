@@ -1,8 +1,7 @@
 -- The bench cases P1 to P12 of document 01: one table under one statement. Assumes nothing.
 use Prim.Native.Nat.{ℕ, zero, suc, _+_}
-use mathlib.Core.Bool.{Bool, true, false, _&&_}
-use mathlib.Core.List.{List, [], _∷_}
-use lib.Dec.{eqb, T}
+use mathlib.Core.Path.{_≡_, refl}
+use mathlib.Core.List.{List, [], _∷_, _++_}
 use Rattle.units.specs.Time.{time}
 use Rattle.speed.specs.declared.SpeedTable.{SpeedTable}
 use Rattle.speed.specs.Table.{table, grade-13E, grade-133}
@@ -18,6 +17,8 @@ use Rattle.bursts.specs.declared.Beat.{Beat}
 use Rattle.bursts.specs.declared.Beat.the-variants.{Quiet, Stores, Drives}
 use Rattle.bursts.specs.Burst.{has-beat, write-beat, read-beat, finished}
 use Rattle.bursts.specs.Bus.{masks-on, masks-after, reads-from, bus-after, beat-on, bursts-finished, driven, bus-clear}
+use Rattle.bursts.specs.Cases.{Row, _gives_, found, expected}
+use Rattle.rules.specs.declared.State.{State}
 use Rattle.rules.specs.declared.Setup.{Setup}
 use Rattle.rules.specs.Numbers.{number-of, interval-of, tRCD, tRP, tRFC, tWR}
 use Rattle.rules.specs.Parts.{start}
@@ -89,55 +90,78 @@ up word rs = all-banks 13334 ∷ refresh 2 ∷ refresh 8 ∷ load 8 word ∷ rs
 abbrev pub up-active : ℕ → List Record → List Record
 up-active word rs = up word (active 1 1 7 ∷ rs)
 
--- ── A case: a table, a period and a trace, and one thing that document 01 says of them ──
+-- ── A case: a table, a period and a trace, and what document 01 says of them ──
 
-pub data Case : Type 0 where
-  -- the verdict, with number and interval, and the record reported
-  refuses : (t : SpeedTable) (period : ℕ) (rs : List Record) (number interval reported : ℕ) → Case
-  -- no record is refused
-  takes : (t : SpeedTable) (period : ℕ) (rs : List Record) (count : ℕ) → Case
-  -- the columns of the reported beats, their lanes, the clocks that they stand on
-  columns : (t : SpeedTable) (period : ℕ) (rs : List Record) (expected : List ℕ) → Case
-  lanes : (t : SpeedTable) (period : ℕ) (rs : List Record) (expected : List ℕ) → Case
-  clocks : (t : SpeedTable) (period : ℕ) (rs : List Record) (expected : List ℕ) → Case
+-- a reported beat, as the program prints it: W or R, record, clock, bank, row, column, lanes
+pub data Reported : Type 0 where
+  W : (number clock bank row column lanes : ℕ) → Reported
+  R : (number clock bank row column lanes : ℕ) → Reported
 
-abbrev pub same-numbers : List ℕ → List ℕ → Bool
-same-numbers [] [] = true
-same-numbers [] (y ∷ ys) = false
-same-numbers (x ∷ xs) [] = false
-same-numbers (x ∷ xs) (y ∷ ys) = eqb x y && same-numbers xs ys
+-- number and interval of the verdict, the record that it reports, and each reported beat
+pub record Outcome : Type 0 where
+  pub number : ℕ
+  pub interval : ℕ
+  pub reported : ℕ
+  pub beats : List Reported
 
-abbrev pub same-run : Run → ℕ → ℕ → ℕ → Bool
-same-run u number interval reported =
-    eqb (number-of (u .verdict)) number && eqb (interval-of (u .verdict)) interval && eqb (u .reported) reported
+-- the beat on record k's clock n, before those after it
+abbrev pub beat-at : ℕ → ℕ → Beat → List Reported → List Reported
+beat-at k n Quiet l = l
+beat-at k n (Stores c) l = W k n (c .bank) (c .row) (c .column) (c .lanes) ∷ l
+beat-at k n (Drives c) l = R k n (c .bank) (c .row) (c .column) (c .lanes) ∷ l
 
--- f of each reported beat and its clock, in order
-abbrev pub of-beat : (ℕ → Cells → ℕ) → ℕ → Beat → List ℕ → List ℕ
-of-beat f n Quiet l = l
-of-beat f n (Stores c) l = f n c ∷ l
-of-beat f n (Drives c) l = f n c ∷ l
+-- the beats of records from number k on
+abbrev pub beats-in : ℕ → List Line → List Reported
+beats-in k [] = []
+beats-in k (l ∷ ls) = beat-at k (l .clock .0) (l .beat) (beats-in (suc k) ls)
 
-abbrev pub of-lines : (ℕ → Cells → ℕ) → List Line → List ℕ
-of-lines f [] = []
-of-lines f (l ∷ ls) = of-beat f (l .clock .0) (l .beat) (of-lines f ls)
+-- of a run whose first record has number k
+abbrev pub outcome-of : ℕ → Run → Outcome
+outcome-of k u =
+    record {
+      number = number-of (u .verdict);
+      interval = interval-of (u .verdict);
+      reported = u .reported;
+      beats = beats-in k (u .lines);
+    }
+
+abbrev pub outcome : ℕ → ℕ → ℕ → List Reported → Outcome
+outcome number interval reported beats = record { number = number; interval = interval; reported = reported; beats = beats }
 
 -- a call with the table of grade -133
 abbrev pub with-133 : Setup
 with-133 = record { table = grade-133 }
 
-abbrev pub run-of : SpeedTable → ℕ → List Record → Run
-run-of t period rs = run (record { table = t }) (start (time period) 2 0 0) rs
+-- records from a state, and what they give
+abbrev pub runs-from : SpeedTable → State → List Record → ℕ → ℕ → ℕ → List Reported → Row Outcome
+runs-from t s rs number interval reported beats =
+    outcome-of (s .core .number) (run (record { table = t }) s rs) gives outcome number interval reported beats
 
-abbrev pub right : Case → Bool
-right (refuses t p rs number interval reported) = same-run (run-of t p rs) number interval reported
-right (takes t p rs count) = same-run (run-of t p rs) 0 0 count
-right (columns t p rs expected) = same-numbers (of-lines (λ n c. c .column) (run-of t p rs .lines)) expected
-right (lanes t p rs expected) = same-numbers (of-lines (λ n c. c .lanes) (run-of t p rs .lines)) expected
-right (clocks t p rs expected) = same-numbers (of-lines (λ n c. n) (run-of t p rs .lines)) expected
+-- a whole trace
+abbrev pub runs : SpeedTable → ℕ → List Record → ℕ → ℕ → ℕ → List Reported → Row Outcome
+runs t period rs number interval reported beats =
+    runs-from t (start (time period) 2 0 0) rs number interval reported beats
 
-abbrev pub all-right : List Case → Bool
-all-right [] = true
-all-right (k ∷ ks) = right k && all-right ks
+-- refused, with no beat reported before
+abbrev pub refuses : SpeedTable → ℕ → List Record → ℕ → ℕ → ℕ → Row Outcome
+refuses t period rs number interval reported = runs t period rs number interval reported []
+
+-- clean, and no beat reported
+abbrev pub takes : SpeedTable → ℕ → List Record → ℕ → Row Outcome
+takes t period rs count = runs t period rs 0 0 count []
+
+-- clean, with these beats
+abbrev pub reports : SpeedTable → ℕ → List Record → ℕ → List Reported → Row Outcome
+reports t period rs count beats = runs t period rs 0 0 count beats
+
+-- beats on all lanes of these columns of bank 1, row 7, on record k's clock n and on those of the next records
+abbrev pub Ws : ℕ → ℕ → List ℕ → List Reported
+Ws k n [] = []
+Ws k n (c ∷ cs) = W k n 1 7 c 255 ∷ Ws (suc k) (suc n) cs
+
+abbrev pub Rs : ℕ → ℕ → List ℕ → List Reported
+Rs k n [] = []
+Rs k n (c ∷ cs) = R k n 1 7 c 255 ∷ Rs (suc k) (suc n) cs
 
 -- ── P1 to P12: "Grade -133, period 7,500, earlier records legal, unless said" ──
 
@@ -145,7 +169,7 @@ all-right (k ∷ ks) = right k && all-right ks
 abbrev pub own-table : SpeedTable
 own-table = table 10_000 7_500 44_000 120_000_000 66_000 20_000 20_000 15_000 66_000 15_000 7_500 200_000_000 2
 
-abbrev pub bench : List Case
+abbrev pub bench : List (Row Outcome)
 bench =
     -- P1
     refuses grade-133 7500 (all-banks 13333 ∷ []) 14 0 0
@@ -165,21 +189,21 @@ bench =
     -- P5
     ∷ refuses grade-133 7500 (up-active 0x31 (read 1 1 0 ∷ [])) 16 tRCD 5
     ∷ takes grade-13E 7500 (up-active 0x31 (read 1 1 0 ∷ [])) 6
-    -- P6
-    ∷ columns grade-133 7500 (up-active 0x3b (read 2 1 13 ∷ nops 12 [])) (13 ∷ 12 ∷ 15 ∷ 14 ∷ 9 ∷ 8 ∷ 11 ∷ 10 ∷ [])
-    ∷ columns grade-133 7500 (up-active 0x32 (write 2 1 6 ∷ nops 5 [])) (6 ∷ 7 ∷ 4 ∷ 5 ∷ [])
+    -- P6: READ on 13,360, so its beats are on 13,363 to 13,370; WRITE on 13,360
+    ∷ reports grade-133 7500 (up-active 0x3b (read 2 1 13 ∷ nops 12 [])) 18 (Rs 8 13363 (13 ∷ 12 ∷ 15 ∷ 14 ∷ 9 ∷ 8 ∷ 11 ∷ 10 ∷ []))
+    ∷ reports grade-133 7500 (up-active 0x32 (write 2 1 6 ∷ nops 5 [])) 11 (Ws 5 13360 (6 ∷ 7 ∷ 4 ∷ 5 ∷ []))
     -- P7: column 2,046 has A11 HIGH, so its address is 3,070
-    ∷ columns grade-133 7500 (up-active 0x37 (write 2 1 3070 ∷ nops 2 [])) (2046 ∷ 2047 ∷ 0 ∷ [])
-    -- P8
-    ∷ refuses grade-133 7500 (up-active 0x30 (write 5 1 0 ∷ precharge 0 1 ∷ [])) 16 tWR 6
-    ∷ takes grade-133 7500 (up-active 0x30 (write 5 1 0 ∷ precharge 1 1 ∷ [])) 7
-    -- P9
-    ∷ refuses grade-133 9000 (up-active 0x30 (write 20 1 (with-a10 0) ∷ active 3 1 8 ∷ [])) 16 tRP 6
-    ∷ takes grade-133 9000 (up-active 0x30 (write 20 1 (with-a10 0) ∷ active 4 1 8 ∷ [])) 7
-    -- P10: READ on 13,360
-    ∷ refuses grade-133 7500 (up-active 0x32 (read 2 1 0 ∷ nops 6 (write 0 1 0 ∷ []))) 20 0 12
-    ∷ takes grade-133 7500 (up-active 0x32 (read 2 1 0 ∷ nops 7 (write 0 1 0 ∷ []))) 14
-    ∷ clocks grade-133 7500 (up-active 0x32 (read 2 1 0 ∷ nop 0 0 ∷ terminate 0 ∷ nops 5 [])) (13363 ∷ 13364 ∷ [])
+    ∷ reports grade-133 7500 (up-active 0x37 (write 2 1 3070 ∷ nops 2 [])) 8 (Ws 5 13360 (2046 ∷ 2047 ∷ 0 ∷ []))
+    -- P8: the byte is stored on 13,363
+    ∷ runs grade-133 7500 (up-active 0x30 (write 5 1 0 ∷ precharge 0 1 ∷ [])) 16 tWR 6 (Ws 5 13363 (0 ∷ []))
+    ∷ reports grade-133 7500 (up-active 0x30 (write 5 1 0 ∷ precharge 1 1 ∷ [])) 7 (Ws 5 13363 (0 ∷ []))
+    -- P9: WRITE on 13,378
+    ∷ runs grade-133 9000 (up-active 0x30 (write 20 1 (with-a10 0) ∷ active 3 1 8 ∷ [])) 16 tRP 6 (Ws 5 13378 (0 ∷ []))
+    ∷ reports grade-133 9000 (up-active 0x30 (write 20 1 (with-a10 0) ∷ active 4 1 8 ∷ [])) 7 (Ws 5 13378 (0 ∷ []))
+    -- P10: READ on 13,360, the last beat of four on 13,366
+    ∷ runs grade-133 7500 (up-active 0x32 (read 2 1 0 ∷ nops 6 (write 0 1 0 ∷ []))) 20 0 12 (Rs 8 13363 (0 ∷ 1 ∷ 2 ∷ 3 ∷ []))
+    ∷ reports grade-133 7500 (up-active 0x32 (read 2 1 0 ∷ nops 7 (write 0 1 0 ∷ []))) 14 (Rs 8 13363 (0 ∷ 1 ∷ 2 ∷ 3 ∷ []) ++ Ws 13 13368 (0 ∷ []))
+    ∷ reports grade-133 7500 (up-active 0x32 (read 2 1 0 ∷ nop 0 0 ∷ terminate 0 ∷ nops 5 [])) 13 (Rs 8 13363 (0 ∷ 1 ∷ []))
     -- P11
     ∷ takes grade-133 7500 (all-banks 13334 ∷ refresh 2 ∷ refresh 8 ∷ nop 1040 255 ∷ []) 4
     ∷ refuses grade-133 7500 (all-banks 13334 ∷ refresh 2 ∷ refresh 8 ∷ nop 1041 255 ∷ []) 12 0 3
@@ -188,6 +212,6 @@ bench =
     ∷ refuses own-table 7500 (up-active 0x31 (nop 16000 255 ∷ [])) 13 0 5
     ∷ []
 
-pub bench-right : T (all-right bench)
+pub bench-right : found bench ≡ expected bench
 unfolding module-of length-of beat-column has-beat write-beat read-beat finished masks-on masks-after reads-from bus-after beat-on bursts-finished driven bus-clear allowed banks-found of-closing of-any of-active of-access of-precharged of-precharge of-idle events minima every-rules place-rules minimum-rules mode-rules bus-rules command-rules rules ask startup-after beat core-from core-after bank-after commanded mark-banks banks-after next run
-bench-right = tt
+bench-right = refl

@@ -14,7 +14,8 @@ pub mod Report
 pub mod Harder
 pub mod Demand3
 pub mod Cases
-pub mod FurtherCases
 pub mod OrderCases
+pub mod MinimaCases
+pub mod FurtherCases
 pub mod StateCases
 pub mod ModuleCases
