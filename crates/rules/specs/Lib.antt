@@ -18,4 +18,7 @@ pub mod OrderCases
 pub mod MinimaCases
 pub mod FurtherCases
 pub mod StateCases
+pub mod PartsCases
+pub mod NextCases
+pub mod ReportCases
 pub mod ModuleCases
