@@ -1,13 +1,23 @@
 -- Each minimum of number 16 with each command that asks it, from each kind of event that it counts from, on both sides; and the steps
 -- of start-up with each command. From document 01's sentences. `FurtherCases` proves it.
 use Prim.Native.Nat.{ℕ, zero, suc, _+_}
+use mathlib.Core.Bool.{false}
 use mathlib.Core.List.{List, [], _∷_, _++_}
 use lib.ListN.{length}
+use Rattle.units.specs.declared.Event.the-variants.{Never, On}
+use Rattle.units.specs.Time.{clock, time}
 use Rattle.speed.specs.declared.SpeedTable.{SpeedTable}
 use Rattle.speed.specs.Table.{table}
 use Rattle.layout.specs.declared.Record.{Record}
 use Rattle.layout.specs.declared.Command.the-variants.{Inhibit, Write}
+use Rattle.bursts.specs.declared.Burst.{Burst}
+use Rattle.bursts.specs.Bus.{all-masks-high}
 use Rattle.bursts.specs.Cases.{Row}
+use Rattle.rules.specs.declared.Refreshes.the-variants.{Two}
+use Rattle.rules.specs.declared.Register.the-variants.{Loaded}
+use Rattle.rules.specs.declared.Status.the-variants.{Closed}
+use Rattle.rules.specs.declared.Bank.{Bank}
+use Rattle.rules.specs.declared.State.{State}
 use Rattle.rules.specs.Numbers.{tRCD, tRAS, tRC, tRP, tRRD, tRFC, tWR, tMRD}
 use Rattle.rules.specs.Cases.{
   rec,
@@ -26,11 +36,12 @@ use Rattle.rules.specs.Cases.{
   W,
   R,
   Outcome,
-  runs,
+  runs-from,
   refuses,
   takes,
   reports,
 }
+use Rattle.rules.specs.StateCases.{state, bank}
 use Rattle.rules.specs.OrderCases.{at-banks}
 
 -- ── Tables with one minimum that is not 0 ──
@@ -69,31 +80,57 @@ three = 22_500
 
 -- ── A command on both sides of a minimum ──
 
--- after these records, which report `before`: refused with interval k after so many skipped clocks, taken after one more, then
--- reporting `then` too
-abbrev sides-with : SpeedTable → ℕ → ℕ → List Record → List Reported → (ℕ → Record) → List Reported → List (Row Outcome)
-sides-with t k skipped rs before command then =
-    runs t 7500 (rs ++ (command skipped ∷ [])) 16 k (length rs) before
-    ∷ reports t 7500 (rs ++ (command (suc skipped) ∷ [])) (suc (length rs)) (before ++ then)
+-- an empty place, cut by the first PRECHARGE ALL
+abbrev idle : Burst
+idle =
+    record {
+      live = false;
+      auto = false;
+      bank = 0;
+      row = 0;
+      column = 0;
+      start = clock 0;
+      cut = On (clock 13_334);
+      word = 0x30;
+    }
+
+-- a bank that it closed
+abbrev closed : Bank
+closed = bank (Closed (time 100_005_000)) Never Never
+
+-- the state that `up` leaves with this mode word, at period 7,500: `NextCases` has the row
+abbrev pub ready : ℕ → State
+ready word =
+    state 7500 0 0 4 (On (clock 13_355))
+    (record { allclosed = On (clock 13_334); refreshes = Two (clock 13_346); register = Loaded word (clock 13_355) })
+    (record { write = idle; reads = idle ∷ idle ∷ idle ∷ idle ∷ []; masks = all-masks-high })
+    (closed ∷ closed ∷ closed ∷ closed ∷ [])
+
+-- after `up` in this mode and these records, which report `before`: refused with interval k after so many skipped clocks, taken after one
+-- more, then reporting `then` too
+abbrev sides-with : SpeedTable → ℕ → ℕ → ℕ → List Record → List Reported → (ℕ → Record) → List Reported → List (Row Outcome)
+sides-with t k skipped word rs before command then =
+    runs-from t (ready word) (rs ++ (command skipped ∷ [])) 16 k (4 + length rs) before
+    ∷ runs-from t (ready word) (rs ++ (command (suc skipped) ∷ [])) 0 0 (5 + length rs) (before ++ then)
     ∷ []
 
 -- where no beat is reported
 abbrev sides : SpeedTable → ℕ → ℕ → List Record → (ℕ → Record) → List (Row Outcome)
-sides t k skipped rs command = sides-with t k skipped rs [] command []
+sides t k skipped rs command = sides-with t k skipped 0x30 rs [] command []
 
 -- PRECHARGE of bank b and of all; AUTO REFRESH and LOAD MODE
-abbrev closers : SpeedTable → ℕ → ℕ → List Record → List Reported → ℕ → List (Row Outcome)
-closers t k skipped rs before b =
-    sides-with t k skipped rs before (λ s. precharge s b) [] ++ sides-with t k skipped rs before (λ s. all-banks s) []
+abbrev closers : SpeedTable → ℕ → ℕ → ℕ → List Record → List Reported → ℕ → List (Row Outcome)
+closers t k skipped word rs before b =
+    sides-with t k skipped word rs before (λ s. precharge s b) [] ++ sides-with t k skipped word rs before (λ s. all-banks s) []
 
 abbrev idlers : SpeedTable → ℕ → ℕ → List Record → List Reported → List (Row Outcome)
 idlers t k skipped rs before =
-    sides-with t k skipped rs before (λ s. refresh s) [] ++ sides-with t k skipped rs before (λ s. load s 0x30) []
+    sides-with t k skipped 0x30 rs before (λ s. refresh s) [] ++ sides-with t k skipped 0x30 rs before (λ s. load s 0x30) []
 
 -- every executable command that finds all banks closed: but READ and WRITE
 abbrev all-six : SpeedTable → ℕ → ℕ → List Record → ℕ → List (Row Outcome)
 all-six t k skipped rs b =
-    closers t k skipped rs [] b
+    closers t k skipped 0x30 rs [] b
     ++ idlers t k skipped rs []
     ++ sides t k skipped rs (λ s. active s b 7)
     ++ sides t k skipped rs (λ s. terminate s)
@@ -106,8 +143,8 @@ up-late word rs = all-banks 13334 ∷ refresh 200 ∷ refresh 4 ∷ load 4 word 
 
 abbrev rcd : ℕ → List (Row Outcome)
 rcd b =
-    sides (of-rcd three) tRCD 1 (up 0x30 (active 1 b 7 ∷ [])) (λ s. read s b 0)
-    ++ sides-with (of-rcd three) tRCD 1 (up 0x30 (active 1 b 7 ∷ [])) [] (λ s. write s b 0) (W 5 13360 b 7 0 255 ∷ [])
+    sides (of-rcd three) tRCD 1 (active 1 b 7 ∷ []) (λ s. read s b 0)
+    ++ sides-with (of-rcd three) tRCD 1 0x30 (active 1 b 7 ∷ []) [] (λ s. write s b 0) (W 5 13360 b 7 0 255 ∷ [])
 
 -- no other command asks it
 abbrev not-rcd : List (Row Outcome)
@@ -120,7 +157,7 @@ not-rcd =
 -- ── tRAS: "an open bank needs tRAS min" ──
 
 abbrev ras : ℕ → List (Row Outcome)
-ras b = closers (of-ras three) tRAS 1 (up 0x30 (active 1 b 7 ∷ [])) [] b
+ras b = closers (of-ras three) tRAS 1 0x30 (active 1 b 7 ∷ []) [] b
 
 -- not READ, WRITE, ACTIVE or BURST TERMINATE, and not PRECHARGE of another bank
 abbrev not-ras : List (Row Outcome)
@@ -133,13 +170,14 @@ not-ras =
 -- ── tRC: "since its last ACTIVE", on 13,357, closed since ──
 
 abbrev rc : ℕ → List (Row Outcome)
-rc b =
-    sides (of-rc 45_000) tRC 3 (up 0x30 (active 1 b 7 ∷ precharge 0 b ∷ [])) (λ s. active s b 8)
-    ++ sides (of-rc 45_000) tRC 3 (up 0x30 (active 1 b 7 ∷ all-banks 0 ∷ [])) (λ s. active s b 8)
-    -- by auto precharge
-    ++ sides (of-rc 60_000) tRC 5 (up 0x30 (active 1 b 7 ∷ read 0 b (with-a10 0) ∷ [])) (λ s. active s b 8)
-    -- the last of two
-    ++ sides (of-rc 45_000) tRC 3 (up 0x30 (active 1 b 7 ∷ precharge 0 b ∷ active 4 b 8 ∷ precharge 0 b ∷ [])) (λ s. active s b 9)
+rc b = sides (of-rc 45_000) tRC 3 (active 1 b 7 ∷ precharge 0 b ∷ []) (λ s. active s b 8)
+
+-- closed by PRECHARGE ALL and by auto precharge; the last of two
+abbrev rc-else : List (Row Outcome)
+rc-else =
+    sides (of-rc 45_000) tRC 3 (active 1 2 7 ∷ all-banks 0 ∷ []) (λ s. active s 2 8)
+    ++ sides (of-rc 60_000) tRC 5 (active 1 2 7 ∷ read 0 2 (with-a10 0) ∷ []) (λ s. active s 2 8)
+    ++ sides (of-rc 45_000) tRC 3 (active 1 2 7 ∷ precharge 0 2 ∷ active 4 2 8 ∷ precharge 0 2 ∷ []) (λ s. active s 2 9)
 
 -- not of another bank; no other command asks it
 abbrev not-rc : List (Row Outcome)
@@ -153,14 +191,15 @@ not-rc =
 -- ── tRRD: "since the last ACTIVE of another bank", on 13,357 ──
 
 abbrev rrd : ℕ → ℕ → List (Row Outcome)
-rrd a b =
-    sides (of-rrd three) tRRD 1 (up 0x30 (active 1 a 7 ∷ [])) (λ s. active s b 8)
-    -- closed since
-    ++ sides (of-rrd three) tRRD 0 (up 0x30 (active 1 a 7 ∷ precharge 0 a ∷ [])) (λ s. active s b 8)
+rrd a b = sides (of-rrd three) tRRD 1 (active 1 a 7 ∷ []) (λ s. active s b 8)
+
+-- closed since
+abbrev rrd-closed : ℕ → ℕ → List (Row Outcome)
+rrd-closed a b = sides (of-rrd three) tRRD 0 (active 1 a 7 ∷ precharge 0 a ∷ []) (λ s. active s b 8)
 
 -- the last of two others
 abbrev rrd-last : ℕ → ℕ → ℕ → List (Row Outcome)
-rrd-last a b c = sides (of-rrd three) tRRD 1 (up 0x30 (active 1 a 7 ∷ active 2 b 7 ∷ [])) (λ s. active s c 8)
+rrd-last a b c = sides (of-rrd three) tRRD 1 (active 1 a 7 ∷ active 2 b 7 ∷ []) (λ s. active s c 8)
 
 -- not of its own bank; no other command asks it
 abbrev not-rrd : List (Row Outcome)
@@ -185,6 +224,10 @@ rrds =
     ++ rrd 3 0
     ++ rrd 3 1
     ++ rrd 3 2
+    ++ rrd-closed 0 1
+    ++ rrd-closed 1 3
+    ++ rrd-closed 2 0
+    ++ rrd-closed 3 2
     ++ rrd-last 0 1 2
     ++ rrd-last 3 0 1
     ++ rrd-last 1 3 2
@@ -193,22 +236,23 @@ rrds =
 
 -- a PRECHARGE ALL of banks long closed, on 13,376, holds back each of these
 abbrev rp-all : List (Row Outcome)
-rp-all = all-six (of-rp three) tRP 1 (up 0x30 (all-banks 20 ∷ [])) 2
+rp-all = all-six (of-rp three) tRP 1 (all-banks 20 ∷ []) 2
 
--- the closing of bank b, open since 13,357: by PRECHARGE and by PRECHARGE ALL on 13,358, by auto precharge of a READ and of a WRITE at the
--- end of 13,358. PRECHARGE, AUTO REFRESH and LOAD MODE ask it of each bank, ACTIVE of its own
+-- the closing of bank b, open since 13,357, by PRECHARGE and by PRECHARGE ALL on 13,358: PRECHARGE, AUTO REFRESH and LOAD MODE ask it of
+-- each bank, ACTIVE of its own
 abbrev rp : ℕ → List (Row Outcome)
 rp b =
-    closers (of-rp three) tRP 1 (up 0x30 (active 1 b 7 ∷ precharge 0 b ∷ [])) [] b
-    ++ idlers (of-rp three) tRP 1 (up 0x30 (active 1 b 7 ∷ precharge 0 b ∷ [])) []
-    ++ sides (of-rp three) tRP 1 (up 0x30 (active 1 b 7 ∷ precharge 0 b ∷ [])) (λ s. active s b 8)
-    ++ sides (of-rp three) tRP 1 (up 0x30 (active 1 b 7 ∷ all-banks 0 ∷ [])) (λ s. active s b 8)
-    ++ closers (of-rp three) tRP 2 (up 0x30 (active 1 b 7 ∷ read 0 b (with-a10 0) ∷ [])) [] b
-    ++ idlers (of-rp three) tRP 2 (up 0x30 (active 1 b 7 ∷ read 0 b (with-a10 0) ∷ [])) []
-    ++ sides (of-rp three) tRP 2 (up 0x30 (active 1 b 7 ∷ read 0 b (with-a10 0) ∷ [])) (λ s. active s b 8)
-    ++ closers (of-rp three) tRP 2 (up 0x30 (active 1 b 7 ∷ write 0 b (with-a10 0) ∷ [])) (W 5 13358 b 7 0 255 ∷ []) b
-    ++ idlers (of-rp three) tRP 2 (up 0x30 (active 1 b 7 ∷ write 0 b (with-a10 0) ∷ [])) (W 5 13358 b 7 0 255 ∷ [])
-    ++ sides-with (of-rp three) tRP 2 (up 0x30 (active 1 b 7 ∷ write 0 b (with-a10 0) ∷ [])) (W 5 13358 b 7 0 255 ∷ []) (λ s. active s b 8) []
+    closers (of-rp three) tRP 1 0x30 (active 1 b 7 ∷ precharge 0 b ∷ []) [] b
+    ++ idlers (of-rp three) tRP 1 (active 1 b 7 ∷ precharge 0 b ∷ []) []
+    ++ sides (of-rp three) tRP 1 (active 1 b 7 ∷ precharge 0 b ∷ []) (λ s. active s b 8)
+    ++ sides (of-rp three) tRP 1 (active 1 b 7 ∷ all-banks 0 ∷ []) (λ s. active s b 8)
+
+-- by auto precharge of a READ or a WRITE, at the end of 13,358
+abbrev rp-auto : ℕ → Record → List Reported → List (Row Outcome)
+rp-auto b burst before =
+    closers (of-rp three) tRP 2 0x30 (active 1 b 7 ∷ burst ∷ []) before b
+    ++ idlers (of-rp three) tRP 2 (active 1 b 7 ∷ burst ∷ []) before
+    ++ sides-with (of-rp three) tRP 2 0x30 (active 1 b 7 ∷ burst ∷ []) before (λ s. active s b 8) []
 
 -- the closing of bank 1 holds back no ACTIVE, READ, WRITE or PRECHARGE of another bank, and no BURST TERMINATE
 abbrev not-rp : List (Row Outcome)
@@ -225,21 +269,32 @@ not-rp =
 
 -- ── tRFC: "since the last refresh" ──
 
+-- before the mode is loaded: refused two clocks after the last refresh, taken after three
+abbrev both-sides : List Record → (ℕ → Record) → List (Row Outcome)
+both-sides rs command =
+    refuses (of-rfc three) 7500 (rs ++ (command 1 ∷ [])) 16 tRFC (length rs)
+    ∷ takes (of-rfc three) 7500 (rs ++ (command 2 ∷ [])) (suc (length rs))
+    ∷ []
+
 abbrev rfc : List (Row Outcome)
 rfc =
-    -- the first, the second, and one after the mode is loaded
-    closers (of-rfc three) tRFC 1 (all-banks 13334 ∷ refresh 0 ∷ []) [] 2
-    ++ sides (of-rfc three) tRFC 1 (all-banks 13334 ∷ refresh 0 ∷ []) (λ s. refresh s)
-    ++ closers (of-rfc three) tRFC 1 (all-banks 13334 ∷ refresh 0 ∷ refresh 2 ∷ []) [] 2
-    ++ idlers (of-rfc three) tRFC 1 (all-banks 13334 ∷ refresh 0 ∷ refresh 2 ∷ []) []
-    ++ all-six (of-rfc three) tRFC 1 (up 0x30 (refresh 20 ∷ [])) 2
+    -- the first, and the second
+    both-sides (all-banks 13334 ∷ refresh 0 ∷ []) (λ s. precharge s 2)
+    ++ both-sides (all-banks 13334 ∷ refresh 0 ∷ []) (λ s. all-banks s)
+    ++ both-sides (all-banks 13334 ∷ refresh 0 ∷ []) (λ s. refresh s)
+    ++ both-sides (all-banks 13334 ∷ refresh 0 ∷ refresh 2 ∷ []) (λ s. precharge s 2)
+    ++ both-sides (all-banks 13334 ∷ refresh 0 ∷ refresh 2 ∷ []) (λ s. all-banks s)
+    ++ both-sides (all-banks 13334 ∷ refresh 0 ∷ refresh 2 ∷ []) (λ s. refresh s)
+    ++ both-sides (all-banks 13334 ∷ refresh 0 ∷ refresh 2 ∷ []) (λ s. load s 0x30)
+    -- one after the mode is loaded
+    ++ all-six (of-rfc three) tRFC 1 (refresh 20 ∷ []) 2
 
 -- ── tMRD: "since the last mode load", in clocks ──
 
 abbrev mrd : List (Row Outcome)
 mrd =
-    all-six (of-mrd 3) tMRD 1 (up 0x30 []) 2
-    ++ all-six (of-mrd 3) tMRD 1 (up 0x30 (load 20 0x31 ∷ [])) 2
+    all-six (of-mrd 3) tMRD 1 [] 2
+    ++ all-six (of-mrd 3) tMRD 1 (load 20 0x31 ∷ []) 2
     -- of another period: three clocks still
     ++ (refuses (of-mrd 3) 9000 (up 0x30 (terminate 1 ∷ [])) 16 tMRD 4
     ∷ takes (of-mrd 3) 9000 (up 0x30 (terminate 2 ∷ [])) 5
@@ -249,15 +304,17 @@ mrd =
 -- ── tWR: "since the last clock on which a byte was stored in it", here 13,358 ──
 
 abbrev wr : ℕ → List (Row Outcome)
-wr b =
-    closers (of-wr three) tWR 1 (up 0x30 (active 1 b 7 ∷ write 0 b 0 ∷ [])) (W 5 13358 b 7 0 255 ∷ []) b
+wr b = closers (of-wr three) tWR 1 0x30 (active 1 b 7 ∷ write 0 b 0 ∷ []) (W 5 13358 b 7 0 255 ∷ []) b
+
+abbrev wr-else : List (Row Outcome)
+wr-else =
     -- one byte is enough
-    ++ closers (of-wr three) tWR 1 (up 0x30 (active 1 b 7 ∷ rec 0 Write b 0 0x7f ∷ [])) (W 5 13358 b 7 0 0x80 ∷ []) b
+    closers (of-wr three) tWR 1 0x30 (active 1 2 7 ∷ rec 0 Write 2 0 0x7f ∷ []) (W 5 13358 2 7 0 0x80 ∷ []) 2
     -- the second beat stores, or is masked
-    ++ closers (of-wr three) tWR 1 (up 0x31 (active 1 b 7 ∷ write 0 b 0 ∷ nop 0 0xfe ∷ [])) (W 5 13358 b 7 0 255 ∷ W 6 13359 b 7 1 1 ∷ []) b
-    ++ closers (of-wr three) tWR 0 (up 0x31 (active 1 b 7 ∷ write 0 b 0 ∷ nop 0 0xff ∷ [])) (W 5 13358 b 7 0 255 ∷ W 6 13359 b 7 1 0 ∷ []) b
+    ++ closers (of-wr three) tWR 1 0x31 (active 1 2 7 ∷ write 0 2 0 ∷ nop 0 0xfe ∷ []) (W 5 13358 2 7 0 255 ∷ W 6 13359 2 7 1 1 ∷ []) 2
+    ++ closers (of-wr three) tWR 0 0x31 (active 1 2 7 ∷ write 0 2 0 ∷ nop 0 0xff ∷ []) (W 5 13358 2 7 0 255 ∷ W 6 13359 2 7 1 0 ∷ []) 2
     -- none is stored: nothing to count from
-    ++ (reports (of-wr 1_000_000) 7500 (up 0x30 (active 1 b 7 ∷ rec 0 Write b 0 255 ∷ precharge 0 b ∷ [])) 7 (W 5 13358 b 7 0 0 ∷ [])
+    ++ (reports (of-wr 1_000_000) 7500 (up 0x30 (active 1 2 7 ∷ rec 0 Write 2 0 255 ∷ precharge 0 2 ∷ [])) 7 (W 5 13358 2 7 0 0 ∷ [])
     ∷ [])
 
 -- no other command asks it, nor a PRECHARGE of another bank
@@ -274,7 +331,7 @@ not-wr =
 -- the bank's ACTIVE stands on 13,357 and its burst on 13,358; then ACTIVE again, before the closing time and not
 abbrev closes : ℕ → ℕ → ℕ → ℕ → Record → List Reported → List Reported → List (Row Outcome)
 closes trasmin addition skipped word burst before then =
-    sides-with (closed-by trasmin addition) tRP skipped (up word (active 1 1 7 ∷ burst ∷ [])) before (λ s. active s 1 8) then
+    sides-with (closed-by trasmin addition) tRP skipped word (active 1 1 7 ∷ burst ∷ []) before (λ s. active s 1 8) then
 
 abbrev closings : List (Row Outcome)
 closings =
@@ -347,15 +404,19 @@ all-minima =
     ++ at-banks ras
     ++ not-ras
     ++ at-banks rc
+    ++ rc-else
     ++ not-rc
     ++ rrds
     ++ not-rrd
     ++ rp-all
     ++ at-banks rp
+    ++ rp-auto 1 (read 0 1 (with-a10 0)) []
+    ++ rp-auto 3 (write 0 3 (with-a10 0)) (W 5 13358 3 7 0 255 ∷ [])
     ++ not-rp
     ++ rfc
     ++ mrd
     ++ at-banks wr
+    ++ wr-else
     ++ not-wr
     ++ closings
     ++ steps

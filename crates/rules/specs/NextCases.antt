@@ -71,8 +71,9 @@ use Rattle.rules.specs.After.{
   taking,
 }
 use Rattle.rules.specs.OneRecord.{Stepped, judged}
-use Rattle.rules.specs.Cases.{with-133}
+use Rattle.rules.specs.Cases.{up, with-133}
 use Rattle.rules.specs.StateCases.{not-begun, over, state, bank}
+use Rattle.rules.specs.MinimaCases.{ready}
 
 -- ── A state with a value of its own in each part: record 5 comes after clock 1,000, row 7 of bank 1 is watched ──
 
@@ -297,11 +298,19 @@ numbers =
     ∷ word (start (time 7500) 2 0 0 .core) gives 0x30
     ∷ []
 
+-- the state after these records
+abbrev after : State → List Record → State
+after s [] = s
+after s (r ∷ rs) = after (next with-133 s r) rs
+
 abbrev states : List (Row State)
 states =
     -- before the first record
     start (time 7500) 2 3 8191
     gives state 7500 3 8191 0 Never not-begun (bus (none Never) no-reads (masks 255 255 255)) (no-bank ∷ no-bank ∷ no-bank ∷ no-bank ∷ [])
+    -- after start-up: the state that the rows of `MinimaCases` begin from
+    ∷ after (start (time 7500) 2 0 0) (up 0x30 []) gives ready 0x30
+    ∷ after (start (time 7500) 2 0 0) (up 0x232 []) gives ready 0x232
     ∷ []
 
 abbrev banks : List (Row Bank)
