@@ -205,13 +205,28 @@ at-places f (l ∷ ls) = f l ∷ at-places f ls
 -- a record after so many skipped clocks, for bank 2
 abbrev rec : ℕ → Command → ℕ → ℕ → Record
 rec skipped k addr low =
-    record { skipped = skipped; cke = 1; code = code-of k; ba = 2; addr = addr; column = column-of addr; masks = low; zeros = 0; dq = 0 }
+    record {
+      skipped = skipped;
+      cke = 1;
+      code = code-of k;
+      ba = 2;
+      addr = addr;
+      column = column-of addr;
+      masks = low;
+      zeros = 0;
+      dq = 0;
+    }
 
 -- ── Tests ──
 
 -- whether a command for bank 2 ends a burst of bank 2; one of bank 1; and one of bank 1 where A10 is HIGH. Every other address bit is HIGH
 abbrev ended : Command → List Bool
 ended k = ends k 0x1bff 2 2 ∷ ends k 0x1bff 2 1 ∷ ends k 0x1fff 2 1 ∷ []
+
+-- whether a burst from clock 100 with this cut keeps its beats on these clocks
+abbrev kept : Event → List ℕ → List Bool
+kept e [] = []
+kept e (n ∷ ns) = before-cut (clock 100) (clock n) e ∷ kept e ns
 
 -- whether a burst of length 4 from clock 100 has a beat on clocks 99, 100, 101, 102, 103, 104 and 5,100
 abbrev beats-of : Burst → Bool → List Bool
@@ -245,6 +260,11 @@ lane-on last held = driven (On (clock last)) held (one ∷ no-burst ∷ no-burst
 abbrev clear : ℕ → Masks → List Burst → ℕ → Bool
 clear last held reads n = bus-clear (On (clock last)) held reads (clock n)
 
+-- on each of these clocks
+abbrev clears : ℕ → Masks → List Burst → List ℕ → List Bool
+clears last held reads [] = []
+clears last held reads (n ∷ ns) = clear last held reads n ∷ clears last held reads ns
+
 abbrev tests : List (Row (List Bool))
 tests =
     -- "READ, WRITE, BURST TERMINATE, or PRECHARGE of its bank"; PRECHARGE ALL is of each; the others end none
@@ -257,13 +277,13 @@ tests =
     ∷ ended LoadMode gives (false ∷ false ∷ false ∷ [])
     ∷ ended Nop gives (false ∷ false ∷ false ∷ [])
     ∷ ended Inhibit gives (false ∷ false ∷ false ∷ [])
-    -- "lost if .. stands at x with w < x <= w + i": w is 100, and the beat stands on the first clock of each row, then on the next
-    ∷ (before-cut (clock 100) (clock 100) Never ∷ before-cut (clock 100) (clock 101) Never ∷ []) gives (true ∷ true ∷ [])
-    ∷ (before-cut (clock 100) (clock 101) (On (clock 102)) ∷ before-cut (clock 100) (clock 102) (On (clock 102)) ∷ before-cut (clock 100) (clock 103) (On (clock 102)) ∷ []) gives (true ∷ false ∷ false ∷ [])
-    ∷ (before-cut (clock 100) (clock 100) (On (clock 101)) ∷ before-cut (clock 100) (clock 101) (On (clock 101)) ∷ []) gives (true ∷ false ∷ [])
+    -- "lost if .. stands at x with w < x <= w + i": w is 100, and w + i each of these clocks
+    ∷ kept Never (100 ∷ 101 ∷ []) gives (true ∷ true ∷ [])
+    ∷ kept (On (clock 102)) (101 ∷ 102 ∷ 103 ∷ []) gives (true ∷ false ∷ false ∷ [])
+    ∷ kept (On (clock 101)) (100 ∷ 101 ∷ []) gives (true ∷ false ∷ [])
     -- a cut on the start's clock or before it loses nothing
-    ∷ (before-cut (clock 100) (clock 100) (On (clock 100)) ∷ before-cut (clock 100) (clock 101) (On (clock 100)) ∷ []) gives (true ∷ true ∷ [])
-    ∷ (before-cut (clock 100) (clock 100) (On (clock 99)) ∷ before-cut (clock 100) (clock 101) (On (clock 99)) ∷ []) gives (true ∷ true ∷ [])
+    ∷ kept (On (clock 100)) (100 ∷ 101 ∷ []) gives (true ∷ true ∷ [])
+    ∷ kept (On (clock 99)) (100 ∷ 101 ∷ []) gives (true ∷ true ∷ [])
     -- the beats of a burst: from its start, before start + length or without end, before the cut, and only while it is live
     ∷ beats-of (from-100 0x32 0) false gives (false ∷ true ∷ true ∷ true ∷ true ∷ false ∷ false ∷ [])
     ∷ beats-of (from-100 0x32 0) true gives (false ∷ true ∷ true ∷ true ∷ true ∷ true ∷ true ∷ [])
@@ -290,9 +310,12 @@ tests =
     ∷ coming (dead b100) 103 gives (false ∷ false ∷ [])
     ∷ coming no-burst 0 gives (false ∷ false ∷ [])
     -- "Unfinished means a clock before r + length or w + length": only of a live auto precharge burst
-    ∷ (finished 4 (clock 103) (burst true 100 Never 0x32) ∷ finished 4 (clock 104) (burst true 100 Never 0x32) ∷ []) gives (false ∷ true ∷ [])
-    ∷ (finished 4 (clock 99) (burst true 100 Never 0x32) ∷ finished 4 (clock 100) (burst true 100 Never 0x32) ∷ []) gives (false ∷ false ∷ [])
-    ∷ (finished 4 (clock 103) (burst false 100 Never 0x32) ∷ finished 4 (clock 103) (dead (burst true 100 Never 0x32)) ∷ []) gives (true ∷ true ∷ [])
+    ∷ (finished 4 (clock 103) (burst true 100 Never 0x32) ∷ finished 4 (clock 104) (burst true 100 Never 0x32) ∷ [])
+    gives (false ∷ true ∷ [])
+    ∷ (finished 4 (clock 99) (burst true 100 Never 0x32) ∷ finished 4 (clock 100) (burst true 100 Never 0x32) ∷ [])
+    gives (false ∷ false ∷ [])
+    ∷ (finished 4 (clock 103) (burst false 100 Never 0x32) ∷ finished 4 (clock 103) (dead (burst true 100 Never 0x32)) ∷ [])
+    gives (true ∷ true ∷ [])
     -- a cut does not finish it
     ∷ (finished 4 (clock 103) (burst true 100 (On (clock 102)) 0x32) ∷ []) gives (false ∷ [])
     -- 19 of a WRITE, with M9 of length 1; of a READ in any place, with M9 of its whole length
@@ -312,22 +335,27 @@ tests =
     ∷ at-places (λ l. later-run (clock 100) l (clock 103)) (in-places one) gives replicate 4 false
     ∷ at-places (λ l. later-run (clock 99) l (clock 104)) (in-places one) gives replicate 4 false
     -- "A lane is driven if its DQMB was LOW two clocks earlier": on 101, which is the last record's clock, or one or two before it
-    ∷ (lane-on 101 (masks 0xfe 0xff 0xff) ∷ lane-on 101 (masks 0x7f 0xff 0xff) ∷ lane-on 101 (masks 0xff 0 0) ∷ []) gives (true ∷ true ∷ false ∷ [])
+    ∷ (lane-on 101 (masks 0xfe 0xff 0xff) ∷ lane-on 101 (masks 0x7f 0xff 0xff) ∷ lane-on 101 (masks 0xff 0 0) ∷ [])
+    gives (true ∷ true ∷ false ∷ [])
     ∷ (lane-on 102 (masks 0xff 0xfe 0xff) ∷ lane-on 102 (masks 0 0xff 0) ∷ []) gives (true ∷ false ∷ [])
     ∷ (lane-on 103 (masks 0xff 0xff 0xfe) ∷ lane-on 103 (masks 0 0 0xff) ∷ []) gives (true ∷ false ∷ [])
     -- a skipped clock had all masks HIGH, and three clocks back is as far as 20 looks
-    ∷ (lane-on 100 (masks 0 0 0) ∷ lane-on 104 (masks 0 0 0) ∷ driven Never (masks 0 0 0) (one ∷ []) (clock 103) ∷ []) gives (false ∷ false ∷ false ∷ [])
-    ∷ (drives-lane (R 0 0x80) ∷ drives-lane (R 0 0x01) ∷ drives-lane (R 0 0) ∷ drives-lane (W 0 0xff) ∷ drives-lane Quiet ∷ []) gives (true ∷ true ∷ false ∷ false ∷ false ∷ [])
+    ∷ (lane-on 100 (masks 0 0 0) ∷ lane-on 104 (masks 0 0 0) ∷ driven Never (masks 0 0 0) (one ∷ []) (clock 103) ∷ [])
+    gives (false ∷ false ∷ false ∷ [])
+    ∷ (drives-lane (R 0 0x80) ∷ drives-lane (R 0 0x01) ∷ drives-lane (R 0 0) ∷ drives-lane (W 0 0xff) ∷ drives-lane Quiet ∷ [])
+    gives (true ∷ true ∷ false ∷ false ∷ false ∷ [])
     -- 20: "some lane would be driven on its clock, or is driven one clock before"; one lane is enough
-    ∷ (clear 101 (masks 0xfe 0xff 0xff) (one ∷ []) 102 ∷ clear 101 (masks 0xfe 0xff 0xff) (one ∷ []) 103 ∷ clear 101 (masks 0xfe 0xff 0xff) (one ∷ []) 104 ∷ clear 101 (masks 0xfe 0xff 0xff) (one ∷ []) 105 ∷ []) gives (true ∷ false ∷ false ∷ true ∷ [])
-    ∷ (clear 103 (masks 0xff 0xff 0x7f) (one ∷ []) 104 ∷ clear 103 (masks 0 0 0xff) (one ∷ []) 104 ∷ []) gives (false ∷ true ∷ [])
+    ∷ clears 101 (masks 0xfe 0xff 0xff) (one ∷ []) (102 ∷ 103 ∷ 104 ∷ 105 ∷ []) gives (true ∷ false ∷ false ∷ true ∷ [])
+    ∷ clears 103 (masks 0xff 0xff 0x7f) (one ∷ []) (104 ∷ []) gives (false ∷ [])
+    ∷ clears 103 (masks 0 0 0xff) (one ∷ []) (104 ∷ []) gives (true ∷ [])
     -- CL 2: the beat is on 102, with the masks of 100
-    ∷ (clear 100 (masks 0 0 0) (from-100 0x20 0 ∷ []) 101 ∷ clear 100 (masks 0 0 0) (from-100 0x20 0 ∷ []) 102 ∷ clear 100 (masks 0 0 0) (from-100 0x20 0 ∷ []) 103 ∷ clear 100 (masks 0 0 0) (from-100 0x20 0 ∷ []) 104 ∷ []) gives (true ∷ false ∷ false ∷ true ∷ [])
+    ∷ clears 100 (masks 0 0 0) (from-100 0x20 0 ∷ []) (101 ∷ 102 ∷ 103 ∷ 104 ∷ []) gives (true ∷ false ∷ false ∷ true ∷ [])
     ∷ at-places (λ l. clear 101 (masks 0 0xff 0xff) l 103) (in-places one) gives replicate 4 false
     ∷ at-places (λ l. clear 101 (masks 0 0xff 0xff) l 104) (in-places one) gives replicate 4 false
     ∷ at-places (λ l. clear 101 (masks 0 0xff 0xff) l 105) (in-places one) gives replicate 4 true
     -- on clocks 0 and 1 no READ has a beat
-    ∷ (bus-clear Never (masks 0 0 0) (from-clock 0 0x20 0 ∷ []) (clock 0) ∷ clear 0 (masks 0 0 0) (from-clock 0 0x20 0 ∷ []) 1 ∷ clear 0 (masks 0 0 0) (from-clock 0 0x20 0 ∷ []) 2 ∷ []) gives (true ∷ true ∷ false ∷ [])
+    ∷ clears 0 (masks 0 0 0) (from-clock 0 0x20 0 ∷ []) (0 ∷ 1 ∷ 2 ∷ []) gives (true ∷ true ∷ false ∷ [])
+    ∷ (bus-clear Never (masks 0 0 0) (from-clock 0 0x20 0 ∷ []) (clock 0) ∷ []) gives (true ∷ [])
     -- a byte is stored in the beat's own bank, where some lane is
     ∷ (stores-in (W 0 0x01) 1 ∷ stores-in (W 0 0x80) 1 ∷ stores-in (W 0 0) 1 ∷ []) gives (true ∷ true ∷ false ∷ [])
     ∷ (stores-in (W 0 0xff) 0 ∷ stores-in (W 0 0xff) 2 ∷ stores-in (W 0 0xff) 3 ∷ []) gives (false ∷ false ∷ false ∷ [])
@@ -479,7 +507,8 @@ reads-left =
     ∷ reads-from Nop (clock 110) new (b103 ∷ over ∷ b101 ∷ b100 ∷ []) gives (b103 ∷ over ∷ b101 ∷ b100 ∷ [])
     ∷ reads-from Terminate (clock 110) new (b103 ∷ over ∷ b101 ∷ b100 ∷ []) gives (b103 ∷ over ∷ b101 ∷ b100 ∷ [])
     -- a PRECHARGE of bank 2, and of all
-    ∷ reads-after Precharge (rec 0 Precharge 0 0) (clock 102) 0x31 9 (b100 ∷ second Never ∷ []) gives (b100 ∷ second (On (clock 102)) ∷ [])
+    ∷ reads-after Precharge (rec 0 Precharge 0 0) (clock 102) 0x31 9 (b100 ∷ second Never ∷ [])
+    gives (b100 ∷ second (On (clock 102)) ∷ [])
     ∷ reads-after Precharge (rec 0 Precharge 1024 0) (clock 102) 0x31 9 (b100 ∷ second Never ∷ [])
     gives (cut-at 102 b100 ∷ second (On (clock 102)) ∷ [])
     -- a READ with auto precharge
@@ -502,13 +531,21 @@ abbrev buses : List (Row Bus)
 buses =
     quiet-bus gives record { write = no-burst; reads = no-reads; masks = masks 255 255 255 }
     -- a READ of bank 2 after one skipped clock with masks 0F
-    ∷ bus-after Read (rec 1 Read 5 0x0f) (clock 110) 0x31 9 (record { write = odd Never; reads = b103 ∷ over ∷ b101 ∷ b100 ∷ []; masks = masks 1 2 3 })
-    gives record { write = odd (On (clock 110)); reads = new ∷ cut-at 110 b103 ∷ cut-at 110 b101 ∷ cut-at 110 b100 ∷ []; masks = masks 0x0f 255 1 }
+    ∷ bus-after Read (rec 1 Read 5 0x0f) (clock 110) 0x31 9
+    (record { write = odd Never; reads = b103 ∷ over ∷ b101 ∷ b100 ∷ []; masks = masks 1 2 3 })
+    gives record {
+      write = odd (On (clock 110));
+      reads = new ∷ cut-at 110 b103 ∷ cut-at 110 b101 ∷ cut-at 110 b100 ∷ [];
+      masks =
+          masks 0x0f 255 1;
+    }
     -- a WRITE on the next clock
-    ∷ bus-after Write (rec 0 Write 5 0x0f) (clock 110) 0x31 9 (record { write = odd Never; reads = b103 ∷ over ∷ b101 ∷ b100 ∷ []; masks = masks 1 2 3 })
+    ∷ bus-after Write (rec 0 Write 5 0x0f) (clock 110) 0x31 9
+    (record { write = odd Never; reads = b103 ∷ over ∷ b101 ∷ b100 ∷ []; masks = masks 1 2 3 })
     gives record { write = new; reads = no-reads; masks = masks 0x0f 1 2 }
     -- a NOP after two skipped clocks
-    ∷ bus-after Nop (rec 2 Nop 5 0x0f) (clock 110) 0x31 9 (record { write = odd Never; reads = b103 ∷ over ∷ b101 ∷ b100 ∷ []; masks = masks 1 2 3 })
+    ∷ bus-after Nop (rec 2 Nop 5 0x0f) (clock 110) 0x31 9
+    (record { write = odd Never; reads = b103 ∷ over ∷ b101 ∷ b100 ∷ []; masks = masks 1 2 3 })
     gives record { write = odd Never; reads = b103 ∷ over ∷ b101 ∷ b100 ∷ []; masks = masks 0x0f 255 255 }
     ∷ []
 
@@ -521,6 +558,11 @@ read-on n l = reads-beat l 0 (clock n)
 -- a WRITE burst from column 0 and a READ with CL 3 from column 8, both on clock 100, where the last record stood on 102
 abbrev both : Burst → Burst → ℕ → Beat
 both w r n = beat-on (On (clock 102)) (masks 0xf0 0x0e 0x0d) w (no-burst ∷ r ∷ []) 0x81 (clock n)
+
+-- a beat with each of these masks
+abbrev masked : (ℕ → Beat) → List ℕ → List Beat
+masked f [] = []
+masked f (m ∷ ms) = f m ∷ masked f ms
 
 abbrev beats : List (Row (List Beat))
 beats =
@@ -544,9 +586,10 @@ beats =
     ∷ writes (dead (from-100 0x32 6)) 100 1 gives silent
     ∷ writes (dead (from-100 0x37 6)) 100 1 gives silent
     -- "Lanes with DQMB LOW on that clock are stored"; "a beat with no lane stored is reported with lanes 00"
-    ∷ (write-beat (from-100 0x32 6) 0xf0 (clock 101) ∷ write-beat (from-100 0x32 6) 0x01 (clock 101) ∷ write-beat (from-100 0x32 6) 0xff (clock 101) ∷ []) gives (W 7 0x0f ∷ W 7 0xfe ∷ W 7 0 ∷ [])
+    ∷ masked (λ m. write-beat (from-100 0x32 6) m (clock 101)) (0xf0 ∷ 0x01 ∷ 0xff ∷ []) gives (W 7 0x0f ∷ W 7 0xfe ∷ W 7 0 ∷ [])
     -- the burst's own bank and row
-    ∷ (write-beat (odd Never) 0 (clock 100) ∷ []) gives (Stores (record { bank = 3; row = 8191; column = 1029; lanes = 255 }) ∷ [])
+    ∷ (write-beat (odd Never) 0 (clock 100) ∷ [])
+    gives (Stores (record { bank = 3; row = 8191; column = 1029; lanes = 255 }) ∷ [])
     ∷ (read-beat (odd Never) 0 (clock 104) ∷ []) gives (Drives (record { bank = 3; row = 8191; column = 1030; lanes = 255 }) ∷ [])
     -- "beat i on r + CL + i"
     ∷ reads (from-100 0x3b 13) 102 10 gives (silent ++ Rs (13 ∷ 12 ∷ 15 ∷ 14 ∷ 9 ∷ 8 ∷ 11 ∷ 10 ∷ []) ++ silent)
@@ -566,22 +609,30 @@ beats =
     ∷ reads (cut-at 100 (from-100 0x32 0)) 103 5 gives (Rs (0 ∷ 1 ∷ 2 ∷ 3 ∷ []) ++ silent)
     ∷ reads (cut-at 99 (from-100 0x32 0)) 103 5 gives (Rs (0 ∷ 1 ∷ 2 ∷ 3 ∷ []) ++ silent)
     ∷ reads (dead (from-100 0x32 0)) 103 1 gives silent
-    ∷ (read-beat (from-100 0x32 6) 0xf0 (clock 104) ∷ read-beat (from-100 0x32 6) 0x01 (clock 104) ∷ read-beat (from-100 0x32 6) 0xff (clock 104) ∷ []) gives (R 7 0x0f ∷ R 7 0xfe ∷ R 7 0 ∷ [])
+    ∷ masked (λ m. read-beat (from-100 0x32 6) m (clock 104)) (0xf0 ∷ 0x01 ∷ 0xff ∷ []) gives (R 7 0x0f ∷ R 7 0xfe ∷ R 7 0 ∷ [])
     -- of two beats the first
     ∷ (or-else Quiet (R 2 2) ∷ or-else Quiet (W 1 1) ∷ or-else Quiet Quiet ∷ []) gives (R 2 2 ∷ W 1 1 ∷ Quiet ∷ [])
     ∷ (or-else (W 1 1) (R 2 2) ∷ or-else (W 1 1) Quiet ∷ []) gives (W 1 1 ∷ W 1 1 ∷ [])
     ∷ (or-else (R 2 2) (W 1 1) ∷ or-else (R 2 2) Quiet ∷ []) gives (R 2 2 ∷ R 2 2 ∷ [])
     -- two READs with a beat on one clock: the latest registered one's, whatever its place
     ∷ (read-on 105 (b100 ∷ b102 ∷ []) ∷ read-on 105 (b102 ∷ b100 ∷ []) ∷ []) gives Rs (16 ∷ 16 ∷ [])
-    ∷ (read-on 106 (b102 ∷ b100 ∷ b103 ∷ b101 ∷ []) ∷ read-on 106 (b103 ∷ b102 ∷ b101 ∷ b100 ∷ []) ∷ read-on 106 (b100 ∷ b101 ∷ b102 ∷ b103 ∷ []) ∷ []) gives Rs (24 ∷ 24 ∷ 24 ∷ [])
+    ∷ (read-on 106 (b102 ∷ b100 ∷ b103 ∷ b101 ∷ []) ∷ read-on 106 (b103 ∷ b102 ∷ b101 ∷ b100 ∷ []) ∷ read-on 106
+    (b100 ∷ b101 ∷ b102 ∷ b103 ∷ []) ∷ [])
+    gives Rs (24 ∷ 24 ∷ 24 ∷ [])
     -- a later one without a beat there does not count
-    ∷ (read-on 104 (b100 ∷ b102 ∷ []) ∷ read-on 104 (b102 ∷ b100 ∷ []) ∷ read-on 105 (b100 ∷ dead b102 ∷ []) ∷ []) gives Rs (1 ∷ 1 ∷ 2 ∷ [])
+    ∷ (read-on 104 (b100 ∷ b102 ∷ []) ∷ read-on 104 (b102 ∷ b100 ∷ []) ∷ read-on 105 (b100 ∷ dead b102 ∷ []) ∷ [])
+    gives Rs (1 ∷ 1 ∷ 2 ∷ [])
     ∷ (read-on 106 (no-burst ∷ b100 ∷ no-burst ∷ over ∷ []) ∷ []) gives Rs (32 ∷ [])
     -- "of two registered on one clock the first"
-    ∷ (read-on 103 (b100 ∷ eight 100 40 ∷ []) ∷ read-on 103 (eight 100 40 ∷ b100 ∷ []) ∷ read-on 105 (b100 ∷ eight 102 40 ∷ b102 ∷ []) ∷ []) gives Rs (0 ∷ 40 ∷ 40 ∷ [])
-    ∷ (reads-beat (b100 ∷ []) 0x0f (clock 103) ∷ reads-beat [] 0 (clock 103) ∷ reads-beat no-reads 0 (clock 103) ∷ []) gives (R 0 0xf0 ∷ Quiet ∷ Quiet ∷ [])
+    ∷ (read-on 103 (b100 ∷ eight 100 40 ∷ []) ∷ read-on 103 (eight 100 40 ∷ b100 ∷ []) ∷ read-on 105
+    (b100 ∷ eight 102 40 ∷ b102 ∷ []) ∷ [])
+    gives Rs (0 ∷ 40 ∷ 40 ∷ [])
+    ∷ (reads-beat (b100 ∷ []) 0x0f (clock 103) ∷ reads-beat [] 0 (clock 103) ∷ reads-beat no-reads 0 (clock 103) ∷ [])
+    gives (R 0 0xf0 ∷ Quiet ∷ Quiet ∷ [])
     -- the WRITE's beat before a READ's; a WRITE's masks are its clock's, a READ's two clocks old, here of 101
-    ∷ (both (from-100 0x32 0) (from-100 0x32 8) 103 ∷ both (from-100 0x30 0) (from-100 0x32 8) 103 ∷ both no-burst no-burst 103 ∷ []) gives (W 3 0x7e ∷ R 8 0xf1 ∷ Quiet ∷ [])
+    ∷ (both (from-100 0x32 0) (from-100 0x32 8) 103 ∷ both (from-100 0x30 0) (from-100 0x32 8) 103 ∷ both no-burst no-burst 103
+    ∷ [])
+    gives (W 3 0x7e ∷ R 8 0xf1 ∷ Quiet ∷ [])
     ∷ (both no-burst (from-100 0x32 8) 104 ∷ both no-burst (from-100 0x32 8) 105 ∷ []) gives (R 9 0x0f ∷ R 10 0 ∷ [])
     ∷ []
 

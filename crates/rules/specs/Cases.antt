@@ -43,7 +43,18 @@ use Rattle.rules.specs.Run.{Line, Run, run}
 
 abbrev pub rec : ℕ → Command → ℕ → ℕ → ℕ → Record
 rec skipped k ba addr masks =
-    record { skipped = skipped; cke = 1; code = code-of k; ba = ba; addr = addr; column = column-of addr; masks = masks; zeros = 0; dq = 0 }
+    record {
+      skipped = skipped;
+      cke = 1;
+      code = code-of k;
+      ba = ba;
+      addr = addr;
+      column = column-of addr;
+      masks = masks;
+      zeros =
+          0;
+      dq = 0;
+    }
 
 -- A10
 abbrev pub with-a10 : ℕ → ℕ
@@ -190,7 +201,8 @@ bench =
     ∷ refuses grade-133 7500 (up-active 0x31 (read 1 1 0 ∷ [])) 16 tRCD 5
     ∷ takes grade-13E 7500 (up-active 0x31 (read 1 1 0 ∷ [])) 6
     -- P6: READ on 13,360, so its beats are on 13,363 to 13,370; WRITE on 13,360
-    ∷ reports grade-133 7500 (up-active 0x3b (read 2 1 13 ∷ nops 12 [])) 18 (Rs 8 13363 (13 ∷ 12 ∷ 15 ∷ 14 ∷ 9 ∷ 8 ∷ 11 ∷ 10 ∷ []))
+    ∷ reports grade-133 7500 (up-active 0x3b (read 2 1 13 ∷ nops 12 [])) 18
+    (Rs 8 13363 (13 ∷ 12 ∷ 15 ∷ 14 ∷ 9 ∷ 8 ∷ 11 ∷ 10 ∷ []))
     ∷ reports grade-133 7500 (up-active 0x32 (write 2 1 6 ∷ nops 5 [])) 11 (Ws 5 13360 (6 ∷ 7 ∷ 4 ∷ 5 ∷ []))
     -- P7: column 2,046 has A11 HIGH, so its address is 3,070
     ∷ reports grade-133 7500 (up-active 0x37 (write 2 1 3070 ∷ nops 2 [])) 8 (Ws 5 13360 (2046 ∷ 2047 ∷ 0 ∷ []))
@@ -202,7 +214,8 @@ bench =
     ∷ reports grade-133 9000 (up-active 0x30 (write 20 1 (with-a10 0) ∷ active 4 1 8 ∷ [])) 7 (Ws 5 13378 (0 ∷ []))
     -- P10: READ on 13,360, the last beat of four on 13,366
     ∷ runs grade-133 7500 (up-active 0x32 (read 2 1 0 ∷ nops 6 (write 0 1 0 ∷ []))) 20 0 12 (Rs 8 13363 (0 ∷ 1 ∷ 2 ∷ 3 ∷ []))
-    ∷ reports grade-133 7500 (up-active 0x32 (read 2 1 0 ∷ nops 7 (write 0 1 0 ∷ []))) 14 (Rs 8 13363 (0 ∷ 1 ∷ 2 ∷ 3 ∷ []) ++ Ws 13 13368 (0 ∷ []))
+    ∷ reports grade-133 7500 (up-active 0x32 (read 2 1 0 ∷ nops 7 (write 0 1 0 ∷ []))) 14
+    (Rs 8 13363 (0 ∷ 1 ∷ 2 ∷ 3 ∷ []) ++ Ws 13 13368 (0 ∷ []))
     ∷ reports grade-133 7500 (up-active 0x32 (read 2 1 0 ∷ nop 0 0 ∷ terminate 0 ∷ nops 5 [])) 13 (Rs 8 13363 (0 ∷ 1 ∷ []))
     -- P11
     ∷ takes grade-133 7500 (all-banks 13334 ∷ refresh 2 ∷ refresh 8 ∷ nop 1040 255 ∷ []) 4

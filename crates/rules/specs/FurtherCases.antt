@@ -109,7 +109,8 @@ further =
     ∷ reports grade-133 7500 (up-active 0x30 (rec 5 Write 1 0 255 ∷ precharge 0 1 ∷ [])) 7 (W 5 13363 1 7 0 0 ∷ [])
     ∷ takes grade-133 7500 (up-active 0x30 (precharge 5 1 ∷ precharge 2 1 ∷ active 0 1 8 ∷ [])) 8
     -- an ACTIVE starts no tWR; a store starts that of its own bank only
-    ∷ takes (table 10_000 7_500 0 120_000_000 0 0 0 0 66_000 15_000 7_500 7_812_500 2) 7500 (up-active 0x30 (precharge 0 1 ∷ [])) 6
+    ∷ takes (table 10_000 7_500 0 120_000_000 0 0 0 0 66_000 15_000 7_500 7_812_500 2) 7500
+    (up-active 0x30 (precharge 0 1 ∷ [])) 6
     ∷ reports grade-133 7500 (up-active 0x30 (active 1 2 7 ∷ write 5 1 0 ∷ precharge 0 2 ∷ [])) 8 (Ws 6 13365 (0 ∷ []))
     -- 17: BA, CL, M7, M10, A12; M3 = 1 with length 1 and M9 with full page are legal
     ∷ refuses grade-133 7500 (all-banks 13334 ∷ refresh 2 ∷ refresh 8 ∷ rec 8 LoadMode 1 0x31 255 ∷ []) 17 0 3
@@ -137,13 +138,15 @@ further =
     ∷ refuses (other 59_999 66_000 20_000) 7500 (up-active 0x31 (read 5 1 (with-a10 0) ∷ [])) 22 0 5
     ∷ takes (other 60_000 66_000 20_000) 7500 (up-active 0x31 (read 5 1 (with-a10 0) ∷ [])) 6
     -- auto precharge: not rounded to a clock; no CL in it; ACTIVE + tRAS min where that is later
-    ∷ reports (other 120_000_000 66_000 19_500) 9000 (up-active 0x30 (write 20 1 (with-a10 0) ∷ active 3 1 8 ∷ [])) 7 (Ws 5 13378 (0 ∷ []))
+    ∷ reports (other 120_000_000 66_000 19_500) 9000 (up-active 0x30 (write 20 1 (with-a10 0) ∷ active 3 1 8 ∷ [])) 7
+    (Ws 5 13378 (0 ∷ []))
     ∷ refuses grade-133 7500 (up-active 0x31 (read 20 1 (with-a10 0) ∷ active 3 1 8 ∷ [])) 16 tRP 6
     ∷ takes grade-133 7500 (up-active 0x31 (read 20 1 (with-a10 0) ∷ active 4 1 8 ∷ [])) 7
     ∷ refuses (other 120_000_000 0 20_000) 7500 (up-active 0x31 (read 2 1 (with-a10 0) ∷ active 4 1 8 ∷ [])) 16 tRP 6
     -- the masks of a READ beat are two clocks old; of a WRITE beat its own
     ∷ reports grade-133 7500 (up-active 0x30 (read 2 1 0 ∷ nop 0 0xf0 ∷ nop 0 0 ∷ nop 0 0xff ∷ [])) 9 (R 8 13363 1 7 0 0x0f ∷ [])
-    ∷ reports grade-133 7500 (up-active 0x32 (write 2 1 0 ∷ precharge 0 2 ∷ nops 3 [])) 10 (W 5 13360 1 7 0 255 ∷ W 6 13361 1 7 1 0 ∷ Ws 7 13362 (2 ∷ 3 ∷ []))
+    ∷ reports grade-133 7500 (up-active 0x32 (write 2 1 0 ∷ precharge 0 2 ∷ nops 3 [])) 10
+    (W 5 13360 1 7 0 255 ∷ W 6 13361 1 7 1 0 ∷ Ws 7 13362 (2 ∷ 3 ∷ []))
     -- full page goes on; only its own bank's PRECHARGE cuts it
     ∷ reports own-table 7500 (up-active 0x37 (write 2 1 0 ∷ nop 2047 0 ∷ [])) 7 (W 5 13360 1 7 0 255 ∷ W 6 15408 1 7 0 255 ∷ [])
     ∷ reports grade-133 7500 (up-active 0x37 (write 5 1 0 ∷ precharge 1 1 ∷ nop 0 0 ∷ [])) 8 (Ws 5 13363 (0 ∷ []))
@@ -153,7 +156,8 @@ further =
     ∷ reports grade-133 7500 (up-active 0x237 (write 2 1 5 ∷ nop 0 0 ∷ [])) 7 (Ws 5 13360 (5 ∷ []))
     ∷ reports grade-133 7500 (up-active 0x30 (write 2 1 7173 ∷ [])) 6 (Ws 5 13360 (1029 ∷ []))
     -- a burst keeps the mode of its registration: CL 3, though CL 2 is loaded before its beats
-    ∷ reports no-minima 7500 (up-active 0x32 (read 2 1 0 ∷ nop 0 0 ∷ precharge 0 1 ∷ load 0 0x21 ∷ nops 3 [])) 12 (R 8 13363 1 7 0 255 ∷ R 9 13364 1 7 1 0 ∷ [])
+    ∷ reports no-minima 7500 (up-active 0x32 (read 2 1 0 ∷ nop 0 0 ∷ precharge 0 1 ∷ load 0 0x21 ∷ nops 3 [])) 12
+    (R 8 13363 1 7 0 255 ∷ R 9 13364 1 7 1 0 ∷ [])
     ∷ []
 
 -- those, which rule comes first (`OrderCases`), and each minimum with each command (`MinimaCases`)

@@ -150,7 +150,8 @@ rcd b =
 abbrev not-rcd : List (Row Outcome)
 not-rcd =
     takes (of-rcd 1_000_000) 7500
-    (up 0x30 (active 0 1 7 ∷ terminate 0 ∷ active 0 2 7 ∷ precharge 0 1 ∷ all-banks 0 ∷ refresh 0 ∷ load 0 0x30 ∷ active 0 0 7 ∷ []))
+    (up 0x30 (active 0 1 7 ∷ terminate 0 ∷ active 0 2 7 ∷ precharge 0 1 ∷ all-banks 0 ∷ refresh 0 ∷ load 0 0x30 ∷ active 0 0 7 ∷
+    []))
     12
     ∷ []
 
@@ -183,7 +184,8 @@ rc-else =
 abbrev not-rc : List (Row Outcome)
 not-rc =
     reports (of-rc 1_000_000) 7500
-    (up 0x30 (active 0 1 7 ∷ active 0 2 7 ∷ read 0 1 0 ∷ terminate 0 ∷ precharge 0 1 ∷ all-banks 0 ∷ refresh 0 ∷ load 0 0x30 ∷ active 0 3 7 ∷ []))
+    (up 0x30 (active 0 1 7 ∷ active 0 2 7 ∷ read 0 1 0 ∷ terminate 0 ∷ precharge 0 1 ∷ all-banks 0 ∷ refresh 0 ∷ load 0 0x30 ∷
+    active 0 3 7 ∷ []))
     13
     (R 9 13361 1 7 0 255 ∷ [])
     ∷ []
@@ -205,7 +207,8 @@ rrd-last a b c = sides (of-rrd three) tRRD 1 (active 1 a 7 ∷ active 2 b 7 ∷ 
 abbrev not-rrd : List (Row Outcome)
 not-rrd =
     reports (of-rrd 1_000_000) 7500
-    (up 0x30 (active 0 1 7 ∷ precharge 0 1 ∷ active 0 1 8 ∷ read 0 1 0 ∷ terminate 0 ∷ all-banks 0 ∷ refresh 0 ∷ load 0 0x30 ∷ active 0 1 9 ∷ []))
+    (up 0x30 (active 0 1 7 ∷ precharge 0 1 ∷ active 0 1 8 ∷ read 0 1 0 ∷ terminate 0 ∷ all-banks 0 ∷ refresh 0 ∷ load 0 0x30 ∷
+    active 0 1 9 ∷ []))
     13
     (R 10 13362 1 8 0 255 ∷ [])
     ∷ []
@@ -258,7 +261,8 @@ rp-auto b burst before =
 abbrev not-rp : List (Row Outcome)
 not-rp =
     reports (of-rp 1_000_000) 7500
-    (up-late 0x30 (active 0 1 7 ∷ precharge 0 1 ∷ active 0 2 7 ∷ read 0 2 0 ∷ write 0 2 0 ∷ terminate 0 ∷ precharge 0 2 ∷ precharge 0 3 ∷ [])) 12
+    (up-late 0x30 (active 0 1 7 ∷ precharge 0 1 ∷ active 0 2 7 ∷ read 0 2 0 ∷ write 0 2 0 ∷ terminate 0 ∷ precharge 0 2 ∷
+    precharge 0 3 ∷ [])) 12
     (W 8 13550 2 7 0 255 ∷ [])
     -- "A closed bank .. keeps that closing time": PRECHARGE of one bank and of all restart none; PRECHARGE ALL is an event of its own
     ∷ takes (of-rp three) 7500 (up 0x30 (active 1 1 7 ∷ precharge 0 1 ∷ precharge 2 1 ∷ active 0 1 8 ∷ [])) 8
@@ -311,17 +315,21 @@ wr-else =
     -- one byte is enough
     closers (of-wr three) tWR 1 0x30 (active 1 2 7 ∷ rec 0 Write 2 0 0x7f ∷ []) (W 5 13358 2 7 0 0x80 ∷ []) 2
     -- the second beat stores, or is masked
-    ++ closers (of-wr three) tWR 1 0x31 (active 1 2 7 ∷ write 0 2 0 ∷ nop 0 0xfe ∷ []) (W 5 13358 2 7 0 255 ∷ W 6 13359 2 7 1 1 ∷ []) 2
-    ++ closers (of-wr three) tWR 0 0x31 (active 1 2 7 ∷ write 0 2 0 ∷ nop 0 0xff ∷ []) (W 5 13358 2 7 0 255 ∷ W 6 13359 2 7 1 0 ∷ []) 2
+    ++ closers (of-wr three) tWR 1 0x31 (active 1 2 7 ∷ write 0 2 0 ∷ nop 0 0xfe ∷ [])
+    (W 5 13358 2 7 0 255 ∷ W 6 13359 2 7 1 1 ∷ []) 2
+    ++ closers (of-wr three) tWR 0 0x31 (active 1 2 7 ∷ write 0 2 0 ∷ nop 0 0xff ∷ [])
+    (W 5 13358 2 7 0 255 ∷ W 6 13359 2 7 1 0 ∷ []) 2
     -- none is stored: nothing to count from
-    ++ (reports (of-wr 1_000_000) 7500 (up 0x30 (active 1 2 7 ∷ rec 0 Write 2 0 255 ∷ precharge 0 2 ∷ [])) 7 (W 5 13358 2 7 0 0 ∷ [])
+    ++ (reports (of-wr 1_000_000) 7500 (up 0x30 (active 1 2 7 ∷ rec 0 Write 2 0 255 ∷ precharge 0 2 ∷ [])) 7
+    (W 5 13358 2 7 0 0 ∷ [])
     ∷ [])
 
 -- no other command asks it, nor a PRECHARGE of another bank
 abbrev not-wr : List (Row Outcome)
 not-wr =
     reports (of-wr 1_000_000) 7500
-    (up 0x30 (active 0 1 7 ∷ active 0 2 7 ∷ write 0 1 0 ∷ read 0 1 0 ∷ terminate 0 ∷ precharge 0 2 ∷ active 0 3 7 ∷ read 0 1 (with-a10 0) ∷ precharge 0 3 ∷ refresh 0 ∷ load 0 0x30 ∷ []))
+    (up 0x30 (active 0 1 7 ∷ active 0 2 7 ∷ write 0 1 0 ∷ read 0 1 0 ∷ terminate 0 ∷ precharge 0 2 ∷ active 0 3 7 ∷ read 0 1
+    (with-a10 0) ∷ precharge 0 3 ∷ refresh 0 ∷ load 0 0x30 ∷ []))
     15
     (W 6 13358 1 7 0 255 ∷ R 10 13362 1 7 0 255 ∷ R 14 13366 1 7 0 0 ∷ [])
     ∷ []

@@ -140,7 +140,8 @@ refreshed last word load = record { allclosed = On (clock 0); refreshes = Two (c
 -- a WRITE of the watched row on 1,000 from column 2, whose second beat is on 1,001; before it and after it
 abbrev running : Event → State
 running cut =
-    state 7500 1 7 5 (On (clock 1_000)) over (bus (burst false 1 7 2 1_000 cut) (reads Never Never) (masks 1 2 3)) (b0 ∷ b1 ∷ b2 ∷ b3 ∷ [])
+    state 7500 1 7 5 (On (clock 1_000)) over (bus (burst false 1 7 2 1_000 cut) (reads Never Never) (masks 1 2 3))
+    (b0 ∷ b1 ∷ b2 ∷ b3 ∷ [])
 
 abbrev b-stored : Bank
 b-stored = bank (Open 7 (clock 900)) (On (clock 900)) at-1001
@@ -184,18 +185,23 @@ refuses s r number interval = judged with-133 s r page gives left number interva
 abbrev commands : List (Row Stepped)
 commands =
     -- NOP and COMMAND INHIBIT leave number, clock and masks; two skipped clocks had masks HIGH
-    takes full (rec Nop 3 1024 0xf0) Quiet (then over (bus (w950 Never) (reads Never Never) (masks 0xf0 1 2)) (b0 ∷ b1 ∷ b2 ∷ b3 ∷ [])) page
-    ∷ takes full (rec Inhibit 3 1024 0xf0) Quiet (then over (bus (w950 Never) (reads Never Never) (masks 0xf0 1 2)) (b0 ∷ b1 ∷ b2 ∷ b3 ∷ [])) page
+    takes full (rec Nop 3 1024 0xf0) Quiet
+    (then over (bus (w950 Never) (reads Never Never) (masks 0xf0 1 2)) (b0 ∷ b1 ∷ b2 ∷ b3 ∷ [])) page
+    ∷ takes full (rec Inhibit 3 1024 0xf0) Quiet
+    (then over (bus (w950 Never) (reads Never Never) (masks 0xf0 1 2)) (b0 ∷ b1 ∷ b2 ∷ b3 ∷ [])) page
     -- ACTIVE: its row is open from now; no byte was stored since
     ∷ takes full (rec Active 0 0x1abc 255) Quiet
-    (then over (bus (w950 Never) (reads Never Never) (masks 255 1 2)) (bank (Open 0x1abc (clock 1_001)) at-1001 Never ∷ b1 ∷ b2 ∷ b3 ∷ []))
+    (then over (bus (w950 Never) (reads Never Never) (masks 255 1 2))
+    (bank (Open 0x1abc (clock 1_001)) at-1001 Never ∷ b1 ∷ b2 ∷ b3 ∷ []))
     page
     ∷ takes full (rec Active 2 5 255) Quiet
-    (then over (bus (w950 Never) (reads Never Never) (masks 255 1 2)) (b0 ∷ b1 ∷ bank (Open 5 (clock 1_001)) at-1001 Never ∷ b3 ∷ []))
+    (then over (bus (w950 Never) (reads Never Never) (masks 255 1 2))
+    (b0 ∷ b1 ∷ bank (Open 5 (clock 1_001)) at-1001 Never ∷ b3 ∷ []))
     page
     -- READ: a new burst; it cuts the others
     ∷ takes full (rec Read 1 5 0) Quiet
-    (then over (bus (w950 at-1001) (burst false 1 7 5 1_001 Never ∷ r990 at-1001 ∷ none at-1001 ∷ none at-1001 ∷ []) (masks 0 1 2)) (b0 ∷ b1 ∷ b2 ∷ b3 ∷ []))
+    (then over (bus (w950 at-1001) (burst false 1 7 5 1_001 Never ∷ r990 at-1001 ∷ none at-1001 ∷ none at-1001 ∷ [])
+    (masks 0 1 2)) (b0 ∷ b1 ∷ b2 ∷ b3 ∷ []))
     page
     -- with auto precharge: "the bank closed at once", on clock r + length, 1,003
     ∷ takes full (rec Read 1 0x405 0) Quiet
@@ -204,7 +210,8 @@ commands =
     page
     -- WRITE of the watched row: lanes 3 to 0 of column 3 are stored; the READs before it are gone
     ∷ takes full (rec Write 1 3 0xf0) (Stores (record { bank = 1; row = 7; column = 3; lanes = 0x0f }))
-    (then over (bus (burst false 1 7 3 1_001 Never) no-reads (masks 0xf0 1 2)) (b0 ∷ bank (Open 7 (clock 900)) (On (clock 900)) at-1001 ∷ b2 ∷ b3 ∷ []))
+    (then over (bus (burst false 1 7 3 1_001 Never) no-reads (masks 0xf0 1 2))
+    (b0 ∷ bank (Open 7 (clock 900)) (On (clock 900)) at-1001 ∷ b2 ∷ b3 ∷ []))
     (replicate 24 255 ++ (1 ∷ 2 ∷ 3 ∷ 4 ∷ []) ++ replicate 12 255)
     -- all lanes masked: no byte is stored
     ∷ takes full (rec Write 1 3 255) (Stores (record { bank = 1; row = 7; column = 3; lanes = 0 }))
@@ -212,16 +219,20 @@ commands =
     page
     -- of another bank and row, with auto precharge: clock w + 2 plus 7,500 ps; the page stays
     ∷ takes full (rec Write 3 0x403 0) (Stores (record { bank = 3; row = 9; column = 3; lanes = 255 }))
-    (then over (bus (burst true 3 9 3 1_001 Never) no-reads (masks 0 1 2)) (b0 ∷ b1 ∷ b2 ∷ bank (Closed (time 7_530_000)) (On (clock 901)) at-1001 ∷ []))
+    (then over (bus (burst true 3 9 3 1_001 Never) no-reads (masks 0 1 2))
+    (b0 ∷ b1 ∷ b2 ∷ bank (Closed (time 7_530_000)) (On (clock 901)) at-1001 ∷ []))
     page
     -- BURST TERMINATE
-    ∷ takes full (rec Terminate 0 0 0) Quiet (then over (bus (w950 at-1001) (reads at-1001 at-1001) (masks 0 1 2)) (b0 ∷ b1 ∷ b2 ∷ b3 ∷ [])) page
+    ∷ takes full (rec Terminate 0 0 0) Quiet
+    (then over (bus (w950 at-1001) (reads at-1001 at-1001) (masks 0 1 2)) (b0 ∷ b1 ∷ b2 ∷ b3 ∷ [])) page
     -- PRECHARGE: "it closes now", at 7,507,500 ps, and keeps its last ACTIVE and store; its own bank's bursts are cut
     ∷ takes full (rec Precharge 1 0 255) Quiet
-    (then over (bus (w950 Never) (reads at-1001 Never) (masks 255 1 2)) (b0 ∷ bank (Closed (time 7_507_500)) (On (clock 900)) Never ∷ b2 ∷ b3 ∷ []))
+    (then over (bus (w950 Never) (reads at-1001 Never) (masks 255 1 2))
+    (b0 ∷ bank (Closed (time 7_507_500)) (On (clock 900)) Never ∷ b2 ∷ b3 ∷ []))
     page
     ∷ takes full (rec Precharge 3 0x1bff 255) Quiet
-    (then over (bus (w950 at-1001) (reads Never Never) (masks 255 1 2)) (b0 ∷ b1 ∷ b2 ∷ bank (Closed (time 7_507_500)) (On (clock 901)) (On (clock 950)) ∷ []))
+    (then over (bus (w950 at-1001) (reads Never Never) (masks 255 1 2))
+    (b0 ∷ b1 ∷ b2 ∷ bank (Closed (time 7_507_500)) (On (clock 901)) (On (clock 950)) ∷ []))
     page
     -- "A closed bank .. keeps that closing time"
     ∷ takes full (rec Precharge 2 0 255) Quiet
@@ -231,25 +242,30 @@ commands =
     ∷ takes full (rec Precharge 2 1024 255) Quiet
     (then (record { allclosed = at-1001; refreshes = Two (clock 900); register = Loaded 0x31 (clock 950) })
     (bus (w950 at-1001) (reads at-1001 at-1001) (masks 255 1 2))
-    (b0 ∷ bank (Closed (time 7_507_500)) (On (clock 900)) Never ∷ b2 ∷ bank (Closed (time 7_507_500)) (On (clock 901)) (On (clock 950)) ∷ []))
+    (b0 ∷ bank (Closed (time 7_507_500)) (On (clock 900)) Never ∷ b2 ∷ bank (Closed (time 7_507_500)) (On (clock 901))
+    (On (clock 950)) ∷ []))
     page
     -- AUTO REFRESH: the first, the second, and those after it
     ∷ takes (idle (record { allclosed = On (clock 0); refreshes = None; register = Unloaded })) (rec Refresh 0 0 255) Quiet
     (idle-then (record { allclosed = On (clock 0); refreshes = One (clock 1_001); register = Unloaded }))
     page
-    ∷ takes (idle (record { allclosed = On (clock 0); refreshes = One (clock 900); register = Unloaded })) (rec Refresh 1 1024 255) Quiet
+    ∷ takes (idle (record { allclosed = On (clock 0); refreshes = One (clock 900); register = Unloaded }))
+    (rec Refresh 1 1024 255) Quiet
     (idle-then (record { allclosed = On (clock 0); refreshes = Two (clock 1_001); register = Unloaded }))
     page
     ∷ takes (idle over) (rec Refresh 0 0 255) Quiet (idle-then (refreshed 1_001 0x31 950)) page
     -- LOAD MODE: word and clock; A10 is of the word
     ∷ takes (idle over) (rec LoadMode 0 0x233 255) Quiet (idle-then (refreshed 900 0x233 1_001)) page
-    ∷ takes (idle (record { allclosed = On (clock 0); refreshes = Two (clock 900); register = Unloaded })) (rec LoadMode 0 0x30 255) Quiet
+    ∷ takes (idle (record { allclosed = On (clock 0); refreshes = Two (clock 900); register = Unloaded }))
+    (rec LoadMode 0 0x30 255) Quiet
     (idle-then (refreshed 900 0x30 1_001))
     page
     -- "The first PRECHARGE ALL closes all banks": now, whatever they were
-    ∷ takes (state 65_535 1 7 5 (On (clock 2_000)) not-begun (bus (none Never) no-reads (masks 1 2 3)) (b0 ∷ b1 ∷ no-bank ∷ b3 ∷ [])) (rec Precharge 2 1024 255) Quiet
+    ∷ takes (state 65_535 1 7 5 (On (clock 2_000)) not-begun (bus (none Never) no-reads (masks 1 2 3))
+    (b0 ∷ b1 ∷ no-bank ∷ b3 ∷ [])) (rec Precharge 2 1024 255) Quiet
     (state 65_535 1 7 6 (On (clock 2_001)) (record { allclosed = On (clock 2_001); refreshes = None; register = Unloaded })
-    (bus (none (On (clock 2_001))) (none (On (clock 2_001)) ∷ none (On (clock 2_001)) ∷ none (On (clock 2_001)) ∷ none (On (clock 2_001)) ∷ []) (masks 255 1 2))
+    (bus (none (On (clock 2_001))) (none (On (clock 2_001)) ∷ none (On (clock 2_001)) ∷ none (On (clock 2_001)) ∷ none
+    (On (clock 2_001)) ∷ []) (masks 255 1 2))
     (bank (Closed (time 131_135_535)) (On (clock 100)) (On (clock 101))
     ∷ bank (Closed (time 131_135_535)) (On (clock 900)) Never
     ∷ bank (Closed (time 131_135_535)) Never Never
@@ -257,12 +273,16 @@ commands =
     ∷ []))
     page
     -- a beat of a WRITE that runs on: its byte is stored on this clock, the page has it, and a later record's tWR counts from it
-    ∷ takes (running Never) (rec Nop 0 0 0) (Stores (record { bank = 1; row = 7; column = 3; lanes = 255 })) (ran (masks 0 1 2) Never b-stored)
+    ∷ takes (running Never) (rec Nop 0 0 0) (Stores (record { bank = 1; row = 7; column = 3; lanes = 255 }))
+    (ran (masks 0 1 2) Never b-stored)
     (replicate 24 255 ++ (1 ∷ 2 ∷ 3 ∷ 4 ∷ 5 ∷ 6 ∷ 7 ∷ 8 ∷ []) ++ replicate 8 255)
     -- a READ's beat stores nothing
-    ∷ takes (state 7500 1 7 5 (On (clock 1_000)) over (bus (w950 Never) (burst false 1 7 2 997 Never ∷ none Never ∷ none Never ∷ none Never ∷ []) (masks 0x0f 0xf0 0)) (b0 ∷ b1 ∷ b2 ∷ b3 ∷ []))
+    ∷ takes (state 7500 1 7 5 (On (clock 1_000)) over
+    (bus (w950 Never) (burst false 1 7 2 997 Never ∷ none Never ∷ none Never ∷ none Never ∷ []) (masks 0x0f 0xf0 0))
+    (b0 ∷ b1 ∷ b2 ∷ b3 ∷ []))
     (rec Nop 0 0 0) (Drives (record { bank = 1; row = 7; column = 3; lanes = 0x0f }))
-    (then over (bus (w950 Never) (burst false 1 7 2 997 Never ∷ none Never ∷ none Never ∷ none Never ∷ []) (masks 0 0x0f 0xf0)) (b0 ∷ b1 ∷ b2 ∷ b3 ∷ []))
+    (then over (bus (w950 Never) (burst false 1 7 2 997 Never ∷ none Never ∷ none Never ∷ none Never ∷ []) (masks 0 0x0f 0xf0))
+    (b0 ∷ b1 ∷ b2 ∷ b3 ∷ []))
     page
     -- refused: "changes neither state nor page", though a beat would fall on its clock; a refused LOAD MODE does not count
     ∷ refuses (running Never) (rec Active 1 0 0) 15 0
@@ -270,8 +290,10 @@ commands =
     ∷ refuses (idle over) (rec LoadMode 0 0x34 255) 17 0
     ∷ refuses (idle over) (rec LoadMode 1 0x31 255) 17 0
     ∷ refuses (idle over) (rec LoadMode 0 0x21 255) 18 0
-    ∷ refuses (idle (record { allclosed = On (clock 0); refreshes = One (clock 900); register = Unloaded })) (rec LoadMode 0 0x31 255) 14 0
-    ∷ refuses (state 7500 1 7 5 (On (clock 1_000)) over (bus (w950 Never) no-reads (masks 1 2 3)) (b0 ∷ bank (Open 7 (clock 900)) (On (clock 900)) (On (clock 1_000)) ∷ b2 ∷ b3 ∷ [])) (rec Precharge 1 0 255) 16 tWR
+    ∷ refuses (idle (record { allclosed = On (clock 0); refreshes = One (clock 900); register = Unloaded }))
+    (rec LoadMode 0 0x31 255) 14 0
+    ∷ refuses (state 7500 1 7 5 (On (clock 1_000)) over (bus (w950 Never) no-reads (masks 1 2 3))
+    (b0 ∷ bank (Open 7 (clock 900)) (On (clock 900)) (On (clock 1_000)) ∷ b2 ∷ b3 ∷ [])) (rec Precharge 1 0 255) 16 tWR
     ∷ []
 
 -- ── Parts ──
@@ -307,7 +329,8 @@ abbrev states : List (Row State)
 states =
     -- before the first record
     start (time 7500) 2 3 8191
-    gives state 7500 3 8191 0 Never not-begun (bus (none Never) no-reads (masks 255 255 255)) (no-bank ∷ no-bank ∷ no-bank ∷ no-bank ∷ [])
+    gives state 7500 3 8191 0 Never not-begun (bus (none Never) no-reads (masks 255 255 255))
+    (no-bank ∷ no-bank ∷ no-bank ∷ no-bank ∷ [])
     -- after start-up: the state that the rows of `MinimaCases` begin from
     ∷ after (start (time 7500) 2 0 0) (up 0x30 []) gives ready 0x30
     ∷ after (start (time 7500) 2 0 0) (up 0x232 []) gives ready 0x232
@@ -325,7 +348,11 @@ banks =
 abbrev takings : List (Row Taking)
 takings =
     taking with-133 (running Never) (rec Nop 0 0 0)
-    gives record { beat = Stores (record { bank = 1; row = 7; column = 3; lanes = 255 }); next = ran (masks 0 1 2) Never b-stored }
+    gives record {
+      beat = Stores (record { bank = 1; row = 7; column = 3; lanes = 255 });
+      next = ran (masks 0 1 2) Never
+          b-stored;
+    }
     ∷ []
 
 pub next-right :

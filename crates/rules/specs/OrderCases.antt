@@ -99,12 +99,14 @@ unfinished burst first second =
     ∷ runs (no-minima 0 120_000_000 0) 7500 (up-both 0x32 (burst 0 1 (with-a10 0) ∷ write 2 2 0 ∷ [])) 19 0 7 first
     ∷ runs (no-minima 0 120_000_000 0) 7500 (up-both 0x32 (burst 0 1 (with-a10 0) ∷ terminate 2 ∷ [])) 19 0 7 first
     ∷ reports (no-minima 0 120_000_000 0) 7500 (up-both 0x32 (burst 0 1 (with-a10 0) ∷ read 3 2 0 ∷ [])) 8 (first ++ second)
-    ∷ reports (no-minima 0 120_000_000 0) 7500 (up-both 0x32 (burst 0 1 (with-a10 0) ∷ write 3 2 0 ∷ [])) 8 (first ++ (W 7 13362 2 7 0 255 ∷ []))
+    ∷ reports (no-minima 0 120_000_000 0) 7500 (up-both 0x32 (burst 0 1 (with-a10 0) ∷ write 3 2 0 ∷ [])) 8
+    (first ++ (W 7 13362 2 7 0 255 ∷ []))
     ∷ reports (no-minima 0 120_000_000 0) 7500 (up-both 0x32 (burst 0 1 (with-a10 0) ∷ terminate 3 ∷ [])) 8 (first ++ second)
     -- without A10 none of the three asks it
     ∷ reports (no-minima 0 120_000_000 0) 7500 (up-both 0x32 (burst 0 1 0 ∷ terminate 0 ∷ [])) 8 first
     ∷ reports (no-minima 0 120_000_000 0) 7500 (up-both 0x32 (burst 0 1 0 ∷ read 0 2 0 ∷ [])) 8 first
-    ∷ reports (no-minima 0 120_000_000 0) 7500 (up-both 0x32 (burst 0 1 0 ∷ write 0 2 0 ∷ [])) 8 (first ++ (W 7 13359 2 7 0 255 ∷ []))
+    ∷ reports (no-minima 0 120_000_000 0) 7500 (up-both 0x32 (burst 0 1 0 ∷ write 0 2 0 ∷ [])) 8
+    (first ++ (W 7 13359 2 7 0 255 ∷ []))
     ∷ []
 
 abbrev orders : List (Row Outcome)
@@ -124,7 +126,8 @@ orders =
     ∷ refuses (no-minima 0 75_000 0) 7500 (up-active 0x31 (active 10 1 8 ∷ [])) 13 0 5
     -- 15 before 17; 16 before 19, 20 and 21
     ∷ refuses grade-133 7500 (up-active 0x31 (load 20 0x34 ∷ [])) 15 0 5
-    ∷ runs grade-133 7500 (up-active 0x33 (write 5 1 (with-a10 0) ∷ active 0 2 7 ∷ read 1 2 0 ∷ [])) 16 tRCD 7 (W 5 13363 1 7 0 255 ∷ W 6 13364 1 7 1 0 ∷ [])
+    ∷ runs grade-133 7500 (up-active 0x33 (write 5 1 (with-a10 0) ∷ active 0 2 7 ∷ read 1 2 0 ∷ [])) 16 tRCD 7
+    (W 5 13363 1 7 0 255 ∷ W 6 13364 1 7 1 0 ∷ [])
     ∷ runs grade-133 7500 (up-active 0x30 (read 2 1 0 ∷ rec 0 Active 2 7 0 ∷ nop 0 0 ∷ write 0 2 0 ∷ [])) 16 tRCD 8 []
     ∷ refuses grade-133 7500 (up-active 0x37 (read 1 1 (with-a10 0) ∷ [])) 16 tRCD 5
     -- 19 before 20: a WRITE one clock before the auto precharge READ is finished, on the READ's first beat; 19 before 21 and 22
@@ -133,7 +136,8 @@ orders =
     -- 20 before 21; 21 before 22; 20 before 22
     ∷ runs grade-133 7500 (up-active 0x37 (read 2 1 0 ∷ nops 3 (write 0 1 (with-a10 0) ∷ []))) 20 0 9 (Rs 8 13363 (0 ∷ []))
     ∷ refuses (no-minima 0 30_000 0) 7500 (up-active 0x37 (read 2 1 (with-a10 0) ∷ [])) 21 0 5
-    ∷ runs (no-minima 0 60_000 0) 7500 (up-active 0x33 (read 2 1 0 ∷ nops 3 (write 0 1 (with-a10 0) ∷ []))) 20 0 9 (Rs 8 13363 (0 ∷ []))
+    ∷ runs (no-minima 0 60_000 0) 7500 (up-active 0x33 (read 2 1 0 ∷ nops 3 (write 0 1 (with-a10 0) ∷ []))) 20 0 9
+    (Rs 8 13363 (0 ∷ []))
     -- 12 on COMMAND INHIBIT, BURST TERMINATE, LOAD MODE and PRECHARGE; from the third refresh on counted from the last
     ∷ refuses grade-133 7500 (all-banks 13334 ∷ refresh 2 ∷ refresh 8 ∷ rec 1041 Inhibit 0 0 255 ∷ []) 12 0 3
     ∷ takes grade-133 7500 (all-banks 13334 ∷ refresh 2 ∷ refresh 8 ∷ rec 1040 Inhibit 0 0 255 ∷ []) 4
@@ -175,15 +179,20 @@ orders =
     ∷ refuses grade-133 7500 (up-active 0x30 (precharge 12 1 ∷ load 1 0x31 ∷ [])) 16 tRP 6
     ∷ takes grade-133 7500 (up-active 0x30 (precharge 12 1 ∷ load 2 0x31 ∷ [])) 7
     -- "not even a minimum of 0": ACTIVE before the closing time of an auto precharge, tRP 0
-    ∷ runs (other 120_000_000 0 0 15_000) 7500 (up-active 0x30 (write 2 1 (with-a10 0) ∷ active 1 1 8 ∷ [])) 16 tRP 6 (Ws 5 13360 (0 ∷ []))
-    ∷ reports (other 120_000_000 0 0 15_000) 7500 (up-active 0x30 (write 2 1 (with-a10 0) ∷ active 2 1 8 ∷ [])) 7 (Ws 5 13360 (0 ∷ []))
+    ∷ runs (other 120_000_000 0 0 15_000) 7500 (up-active 0x30 (write 2 1 (with-a10 0) ∷ active 1 1 8 ∷ [])) 16 tRP 6
+    (Ws 5 13360 (0 ∷ []))
+    ∷ reports (other 120_000_000 0 0 15_000) 7500 (up-active 0x30 (write 2 1 (with-a10 0) ∷ active 2 1 8 ∷ [])) 7
+    (Ws 5 13360 (0 ∷ []))
     -- a store before the bank's latest ACTIVE starts no tWR after it
-    ∷ reports (other 120_000_000 66_000 20_000 1_000_000) 7500 (up-active 0x30 (write 5 1 (with-a10 0) ∷ active 10 1 8 ∷ precharge 5 1 ∷ [])) 8 (Ws 5 13363 (0 ∷ []))
+    ∷ reports (other 120_000_000 66_000 20_000 1_000_000) 7500
+    (up-active 0x30 (write 5 1 (with-a10 0) ∷ active 10 1 8 ∷ precharge 5 1 ∷ [])) 8 (Ws 5 13363 (0 ∷ []))
     -- the lowest of two minima: tRAS of bank 2 and tRP of bank 1 under PRECHARGE ALL; tRC and tRP of an ACTIVE; tRP and tRRD; tRRD and tRFC
-    ∷ refuses (other 120_000_000 66_000 1_000_000 15_000) 7500 (up-late 0x30 (active 1 1 7 ∷ active 3 2 7 ∷ precharge 1 1 ∷ all-banks 0 ∷ [])) 16 tRAS 7
+    ∷ refuses (other 120_000_000 66_000 1_000_000 15_000) 7500
+    (up-late 0x30 (active 1 1 7 ∷ active 3 2 7 ∷ precharge 1 1 ∷ all-banks 0 ∷ [])) 16 tRAS 7
     ∷ refuses grade-133 7500 (up-active 0x30 (precharge 5 1 ∷ active 0 1 7 ∷ [])) 16 tRC 6
     ∷ refuses grade-133 7500 (up-two 0x30 (precharge 8 1 ∷ active 0 3 7 ∷ active 0 1 7 ∷ [])) 16 tRP 8
-    ∷ refuses (table 0 0 0 120_000_000 0 0 0 1_000_000 66_000 0 0 7_812_500 0) 7500 (up-active 0x30 (precharge 0 1 ∷ refresh 0 ∷ active 0 2 7 ∷ [])) 16 tRRD 7
+    ∷ refuses (table 0 0 0 120_000_000 0 0 0 1_000_000 66_000 0 0 7_812_500 0) 7500
+    (up-active 0x30 (precharge 0 1 ∷ refresh 0 ∷ active 0 2 7 ∷ [])) 16 tRRD 7
     -- 17: BA must be 0
     ∷ refuses grade-133 7500 (all-banks 13334 ∷ refresh 2 ∷ refresh 8 ∷ rec 8 LoadMode 2 0x31 255 ∷ []) 17 0 3
     ∷ refuses grade-133 7500 (all-banks 13334 ∷ refresh 2 ∷ refresh 8 ∷ rec 8 LoadMode 3 0x31 255 ∷ []) 17 0 3
@@ -199,7 +208,8 @@ orders =
     -- 19 with M9: a WRITE is finished on the next clock, a READ after its whole length; ACTIVE and PRECHARGE do not ask it
     ∷ reports (no-minima 0 120_000_000 0) 7500 (up-both 0x232 (write 0 1 (with-a10 0) ∷ terminate 0 ∷ [])) 8 (Ws 6 13358 (0 ∷ []))
     ∷ refuses (no-minima 0 120_000_000 0) 7500 (up-both 0x232 (read 0 1 (with-a10 0) ∷ terminate 2 ∷ [])) 19 0 7
-    ∷ reports (no-minima 0 120_000_000 0) 7500 (up-both 0x232 (read 0 1 (with-a10 0) ∷ terminate 3 ∷ [])) 8 (R 7 13362 1 7 1 0 ∷ [])
+    ∷ reports (no-minima 0 120_000_000 0) 7500 (up-both 0x232 (read 0 1 (with-a10 0) ∷ terminate 3 ∷ [])) 8
+    (R 7 13362 1 7 1 0 ∷ [])
     ∷ takes (no-minima 0 120_000_000 0) 7500 (up-both 0x33 (read 0 1 (with-a10 0) ∷ active 0 0 7 ∷ precharge 0 2 ∷ [])) 9
     -- 20 with CL 2: READ on 13,360, its one beat on 13,362 with the masks of 13,360; a lane is enough, and a masked beat clears it
     ∷ refuses grade-13E 7500 (up-active 0x20 (read 2 1 0 ∷ write 1 1 0 ∷ [])) 20 0 6
@@ -210,7 +220,8 @@ orders =
     ∷ refuses grade-13E 7500 (up-active 0x20 (rec 2 Read 1 0 0xfe ∷ write 2 1 0 ∷ [])) 20 0 6
     ∷ reports grade-13E 7500 (up-active 0x20 (rec 2 Read 1 0 0xff ∷ write 1 1 0 ∷ [])) 7 (Ws 6 13362 (0 ∷ []))
     -- READ and BURST TERMINATE do not ask 20
-    ∷ reports grade-13E 7500 (up-active 0x20 (read 2 1 0 ∷ read 1 1 0 ∷ terminate 0 ∷ nop 0 0 ∷ [])) 9 (R 6 13362 1 7 0 255 ∷ R 8 13364 1 7 0 255 ∷ [])
+    ∷ reports grade-13E 7500 (up-active 0x20 (read 2 1 0 ∷ read 1 1 0 ∷ terminate 0 ∷ nop 0 0 ∷ [])) 9
+    (R 6 13362 1 7 0 255 ∷ R 8 13364 1 7 0 255 ∷ [])
     -- 21: with M9 a READ is full page still, and a WRITE is not; without A10 neither is asked
     ∷ refuses grade-133 7500 (up-active 0x237 (read 5 1 (with-a10 0) ∷ [])) 21 0 5
     ∷ takes grade-133 7500 (up-active 0x37 (read 5 1 0 ∷ [])) 6

@@ -141,7 +141,8 @@ close-all = rec 0 Precharge 0 (with-a10 0) 0
 -- after command x on 1,001, the beats on 1,005 and 1,006 of a WRITE of length 4 that starts on 1,005; `own` are those of x
 abbrev ahead : Record → List Reported → Row Outcome
 ahead x own =
-    clean (with-write (burst 0 1_005 Never 0x32)) (x ∷ nop 3 0 ∷ nop 0 0 ∷ []) 3 (own ++ (W 6 1_005 1 7 0 255 ∷ W 7 1_006 1 7 1 255 ∷ []))
+    clean (with-write (burst 0 1_005 Never 0x32)) (x ∷ nop 3 0 ∷ nop 0 0 ∷ []) 3
+    (own ++ (W 6 1_005 1 7 0 255 ∷ W 7 1_006 1 7 1 255 ∷ []))
 
 -- of one that starts on x's own clock
 abbrev beside : Record → Row Outcome
@@ -212,13 +213,17 @@ cuts =
     ∷ behind close-all
     ∷ behind (read 0 2 0)
     -- "(The state has one place for a WRITE burst: a new WRITE takes it.)" In mode 0031 it has beats on 1,001 and 1,002
-    ∷ clean (with-write (burst 0 1_005 Never 0x32)) (write 0 2 8 ∷ nop 0 0 ∷ nop 2 0 ∷ []) 3 (W 5 1_001 2 7 8 255 ∷ W 6 1_002 2 7 9 255 ∷ [])
+    ∷ clean (with-write (burst 0 1_005 Never 0x32)) (write 0 2 8 ∷ nop 0 0 ∷ nop 2 0 ∷ []) 3
+    (W 5 1_001 2 7 8 255 ∷ W 6 1_002 2 7 9 255 ∷ [])
     -- a held cut on the start or before it loses nothing; one after it does
-    ∷ clean (with-write (burst 0 1_001 (On (clock 1_001)) 0x32)) (nop 0 0 ∷ nop 0 0 ∷ []) 2 (W 5 1_001 1 7 0 255 ∷ W 6 1_002 1 7 1 255 ∷ [])
-    ∷ clean (with-write (burst 0 1_001 (On (clock 1_000)) 0x32)) (nop 0 0 ∷ nop 0 0 ∷ []) 2 (W 5 1_001 1 7 0 255 ∷ W 6 1_002 1 7 1 255 ∷ [])
+    ∷ clean (with-write (burst 0 1_001 (On (clock 1_001)) 0x32)) (nop 0 0 ∷ nop 0 0 ∷ []) 2
+    (W 5 1_001 1 7 0 255 ∷ W 6 1_002 1 7 1 255 ∷ [])
+    ∷ clean (with-write (burst 0 1_001 (On (clock 1_000)) 0x32)) (nop 0 0 ∷ nop 0 0 ∷ []) 2
+    (W 5 1_001 1 7 0 255 ∷ W 6 1_002 1 7 1 255 ∷ [])
     ∷ clean (with-write (burst 0 1_001 (On (clock 1_002)) 0x32)) (nop 0 0 ∷ nop 0 0 ∷ []) 2 (W 5 1_001 1 7 0 255 ∷ [])
     -- and a command after the start cuts it all the same
-    ∷ clean (with-write (burst 0 1_001 (On (clock 1_000)) 0x32)) (nop 0 0 ∷ terminate 0 ∷ nop 0 0 ∷ []) 3 (W 5 1_001 1 7 0 255 ∷ [])
+    ∷ clean (with-write (burst 0 1_001 (On (clock 1_000)) 0x32)) (nop 0 0 ∷ terminate 0 ∷ nop 0 0 ∷ []) 3
+    (W 5 1_001 1 7 0 255 ∷ [])
     -- "of two cuts after the start the earlier counts": READs of full page since 990, cut on 1,000 and on 1,003
     ∷ clean (with-reads (in-place 0 (burst 0 990 (On (clock 1_000)) 0x37))) (terminate 0 ∷ nop 0 0 ∷ nop 0 0 ∷ []) 3
     (R 5 1_001 1 7 8 255 ∷ R 6 1_002 1 7 9 255 ∷ [])
@@ -237,7 +242,8 @@ survives k =
     ∷ from (with-reads (in-place k (burst 0 998 Never 0x33))) (read 0 1 8 ∷ nop 0 0 ∷ write 0 1 0 ∷ []) 20 0 7
     (R 5 1_001 1 7 0 255 ∷ R 6 1_002 1 7 1 255 ∷ [])
     -- the other three are over, or not live
-    ∷ clean (with-reads (set (replicate 4 (burst 0 990 Never 0x30)) k (burst 0 998 Never 0x33))) (read 0 1 8 ∷ nop 0 0 ∷ nop 0 0 ∷ []) 3
+    ∷ clean (with-reads (set (replicate 4 (burst 0 990 Never 0x30)) k (burst 0 998 Never 0x33)))
+    (read 0 1 8 ∷ nop 0 0 ∷ nop 0 0 ∷ []) 3
     (R 5 1_001 1 7 0 255 ∷ R 6 1_002 1 7 1 255 ∷ R 7 1_003 1 7 2 255 ∷ [])
     ∷ []
 
@@ -269,11 +275,15 @@ rooms =
     ∷ clean (with-reads (r996 ∷ r997 ∷ r998 ∷ r999 ∷ [])) (nop 0 0 ∷ nop 0 0 ∷ nop 0 0 ∷ []) 3
     (R 5 1_001 1 7 32 255 ∷ R 6 1_002 1 7 40 255 ∷ R 7 1_003 1 7 20 255 ∷ [])
     -- "Two READs with a beat on one clock: the latest registered one's"; "of two registered on one clock the first"
-    ∷ clean (with-reads (burst 0 996 Never 0x33 ∷ burst 8 998 Never 0x33 ∷ no-burst ∷ no-burst ∷ [])) (nop 0 0 ∷ []) 1 (R 5 1_001 1 7 8 255 ∷ [])
-    ∷ clean (with-reads (no-burst ∷ burst 8 998 Never 0x33 ∷ no-burst ∷ burst 0 996 Never 0x33 ∷ [])) (nop 0 0 ∷ []) 1 (R 5 1_001 1 7 8 255 ∷ [])
-    ∷ clean (with-reads (no-burst ∷ burst 8 998 Never 0x33 ∷ burst 0 998 Never 0x33 ∷ no-burst ∷ [])) (nop 0 0 ∷ []) 1 (R 5 1_001 1 7 8 255 ∷ [])
+    ∷ clean (with-reads (burst 0 996 Never 0x33 ∷ burst 8 998 Never 0x33 ∷ no-burst ∷ no-burst ∷ [])) (nop 0 0 ∷ []) 1
+    (R 5 1_001 1 7 8 255 ∷ [])
+    ∷ clean (with-reads (no-burst ∷ burst 8 998 Never 0x33 ∷ no-burst ∷ burst 0 996 Never 0x33 ∷ [])) (nop 0 0 ∷ []) 1
+    (R 5 1_001 1 7 8 255 ∷ [])
+    ∷ clean (with-reads (no-burst ∷ burst 8 998 Never 0x33 ∷ burst 0 998 Never 0x33 ∷ no-burst ∷ [])) (nop 0 0 ∷ []) 1
+    (R 5 1_001 1 7 8 255 ∷ [])
     -- the WRITE's beat before a READ's
-    ∷ clean (at-1000 over (bus (burst 16 1_001 Never 0x30) (in-place 2 (burst 0 998 Never 0x33))) two-open) (nop 0 0 ∷ nop 0 0 ∷ []) 2
+    ∷ clean (at-1000 over (bus (burst 16 1_001 Never 0x30) (in-place 2 (burst 0 998 Never 0x33))) two-open)
+    (nop 0 0 ∷ nop 0 0 ∷ []) 2
     (W 5 1_001 1 7 16 255 ∷ R 6 1_002 1 7 1 255 ∷ [])
     ∷ []
 
@@ -285,7 +295,8 @@ picked f m k = cond (f k) m 0
 
 abbrev minima-of : (ℕ → Bool) → ℕ → SpeedTable
 minima-of f m =
-    table 0 0 (picked f m tRAS) 120_000_000 (picked f m tRC) (picked f m tRCD) (picked f m tRP) (picked f m tRRD) (picked f m tRFC) (picked f m tWR) 0
+    table 0 0 (picked f m tRAS) 120_000_000 (picked f m tRC) (picked f m tRCD) (picked f m tRP) (picked f m tRRD)
+    (picked f m tRFC) (picked f m tWR) 0
     7_812_500 (picked f 3 tMRD)
 
 -- three clocks of 7,500 ps
@@ -325,7 +336,8 @@ abbrev matrix : List (Row Outcome)
 matrix =
     -- "READ, WRITE: tRCD since its ACTIVE", and the three of any executable command
     asked-by opened (read 0 1 0) [] (1 ∷ 4 ∷ 4 ∷ 4 ∷ 6 ∷ 6 ∷ 8 ∷ 8 ∷ 0 ∷ []) (1 ∷ 0 ∷ 0 ∷ 4 ∷ 0 ∷ 6 ∷ 0 ∷ 8 ∷ [])
-    ++ asked-by opened (write 0 1 0) (W 5 1_001 1 7 0 255 ∷ []) (1 ∷ 4 ∷ 4 ∷ 4 ∷ 6 ∷ 6 ∷ 8 ∷ 8 ∷ 0 ∷ []) (1 ∷ 0 ∷ 0 ∷ 4 ∷ 0 ∷ 6 ∷ 0 ∷ 8 ∷ [])
+    ++ asked-by opened (write 0 1 0) (W 5 1_001 1 7 0 255 ∷ []) (1 ∷ 4 ∷ 4 ∷ 4 ∷ 6 ∷ 6 ∷ 8 ∷ 8 ∷ 0 ∷ [])
+    (1 ∷ 0 ∷ 0 ∷ 4 ∷ 0 ∷ 6 ∷ 0 ∷ 8 ∷ [])
     -- PRECHARGE of an open bank: tRAS min and tWR; each of the four
     ++ asked-by opened (precharge 0 1) [] (2 ∷ 2 ∷ 4 ∷ 4 ∷ 6 ∷ 6 ∷ 7 ∷ 8 ∷ 0 ∷ []) (0 ∷ 2 ∷ 0 ∷ 4 ∷ 0 ∷ 6 ∷ 7 ∷ 8 ∷ [])
     ++ asked-by opened (all-banks 0) [] (2 ∷ 2 ∷ 4 ∷ 4 ∷ 6 ∷ 6 ∷ 7 ∷ 8 ∷ 0 ∷ []) (0 ∷ 2 ∷ 0 ∷ 4 ∷ 0 ∷ 6 ∷ 7 ∷ 8 ∷ [])
@@ -364,9 +376,12 @@ abbrev by-bank : ℕ → List (Row Outcome)
 by-bank k =
     -- tWR: a store before the open bank's ACTIVE, or on its clock, is none
     runs-from (huge tWR) (with-bank k (bank (Open 7 (clock 999)) (On (clock 999)) (On (clock 998)))) (precharge 0 k ∷ []) 0 0 6 []
-    ∷ runs-from (huge tWR) (with-bank k (bank (Open 7 (clock 999)) (On (clock 999)) (On (clock 999)))) (precharge 0 k ∷ []) 0 0 6 []
-    ∷ runs-from (huge tWR) (with-bank k (bank (Open 7 (clock 999)) (On (clock 999)) (On (clock 1_000)))) (precharge 0 k ∷ []) 16 tWR 5 []
-    ∷ runs-from (huge tWR) (with-bank k (bank (Open 7 (clock 999)) (On (clock 999)) (On (clock 1_000)))) (all-banks 0 ∷ []) 16 tWR 5 []
+    ∷ runs-from (huge tWR) (with-bank k (bank (Open 7 (clock 999)) (On (clock 999)) (On (clock 999)))) (precharge 0 k ∷ []) 0 0
+    6 []
+    ∷ runs-from (huge tWR) (with-bank k (bank (Open 7 (clock 999)) (On (clock 999)) (On (clock 1_000)))) (precharge 0 k ∷ []) 16
+    tWR 5 []
+    ∷ runs-from (huge tWR) (with-bank k (bank (Open 7 (clock 999)) (On (clock 999)) (On (clock 1_000)))) (all-banks 0 ∷ []) 16
+    tWR 5 []
     ∷ runs-from (huge tWR) (with-bank k (bank (Open 7 (clock 999)) (On (clock 999)) (On (clock 999)))) (all-banks 0 ∷ []) 0 0 6 []
     -- an open bank whose `active` is Never: tRAS, tRCD, 13 and tWR count from the status's ACTIVE
     ∷ runs-from (huge tRAS) (with-bank k (bank (Open 7 (clock 999)) Never Never)) (precharge 0 k ∷ []) 16 tRAS 5 []
@@ -374,10 +389,13 @@ by-bank k =
     ∷ runs-from (huge tRCD) (with-bank k (bank (Open 7 (clock 999)) Never Never)) (write 0 k 0 ∷ []) 16 tRCD 5 []
     ∷ runs-from (huge tWR) (with-bank k (bank (Open 7 (clock 999)) Never (On (clock 1_000)))) (precharge 0 k ∷ []) 16 tWR 5 []
     ∷ runs-from (huge tWR) (with-bank k (bank (Open 7 (clock 999)) Never (On (clock 999)))) (precharge 0 k ∷ []) 0 0 6 []
-    ∷ runs-from (table 0 0 0 7_499 0 0 0 0 0 0 0 7_812_500 0) (with-bank k (bank (Open 7 (clock 1_000)) Never Never)) (nop 0 255 ∷ []) 13 0 5 []
-    ∷ runs-from (table 0 0 0 7_500 0 0 0 0 0 0 0 7_812_500 0) (with-bank k (bank (Open 7 (clock 1_000)) Never Never)) (nop 0 255 ∷ []) 0 0 6 []
+    ∷ runs-from (table 0 0 0 7_499 0 0 0 0 0 0 0 7_812_500 0) (with-bank k (bank (Open 7 (clock 1_000)) Never Never))
+    (nop 0 255 ∷ []) 13 0 5 []
+    ∷ runs-from (table 0 0 0 7_500 0 0 0 0 0 0 0 7_812_500 0) (with-bank k (bank (Open 7 (clock 1_000)) Never Never))
+    (nop 0 255 ∷ []) 0 0 6 []
     -- not from its `active`, if that is another
-    ∷ runs-from (table 0 0 22_500 120_000_000 0 22_500 0 0 0 0 0 7_812_500 0) (with-bank k (bank (Open 7 (clock 998)) (On (clock 1_000)) Never)) (read 0 k 0 ∷ precharge 0 k ∷ []) 0 0 7 []
+    ∷ runs-from (table 0 0 22_500 120_000_000 0 22_500 0 0 0 0 0 7_812_500 0)
+    (with-bank k (bank (Open 7 (clock 998)) (On (clock 1_000)) Never)) (read 0 k 0 ∷ precharge 0 k ∷ []) 0 0 7 []
     -- tRC and tRRD count from its `active`, and find no event where that is Never
     ∷ runs-from (huge tRC) (with-bank k (bank (Closed (time 0)) Never Never)) (active 0 k 7 ∷ []) 0 0 6 []
     ∷ runs-from (huge tRC) (with-bank k (bank (Closed (time 0)) (On (clock 1_000)) Never)) (active 0 k 7 ∷ []) 16 tRC 5 []
@@ -392,7 +410,8 @@ by-bank k =
     ∷ from (with-bank k no-bank) (precharge 0 k ∷ active 2 k 7 ∷ []) 0 0 7 []
     ∷ from (with-bank k no-bank) (all-banks 0 ∷ active 2 k 7 ∷ []) 0 0 7 []
     -- with tRAS, tRC, tRCD or tWR there is nothing to count from, and 13 does not look at it
-    ∷ runs-from (table 0 0 0 0 1_000_000 0 0 0 0 1_000_000 0 7_812_500 0) (with-bank k (bank NotStarted Never (On (clock 1_000)))) (precharge 0 k ∷ []) 0 0 6 []
+    ∷ runs-from (table 0 0 0 0 1_000_000 0 0 0 0 1_000_000 0 7_812_500 0)
+    (with-bank k (bank NotStarted Never (On (clock 1_000)))) (precharge 0 k ∷ []) 0 0 6 []
     -- "An event still ahead .. its minimum is not met before it, not even a minimum of 0": its ACTIVE, its store, its closing
     ∷ runs-from none (with-bank k (bank (Open 7 (clock 1_002)) Never Never)) (read 0 k 0 ∷ []) 16 tRCD 5 []
     ∷ runs-from none (with-bank k (bank (Open 7 (clock 1_001)) Never Never)) (read 0 k 0 ∷ []) 0 0 6 []
@@ -406,7 +425,8 @@ by-bank k =
     ∷ runs-from none (with-bank k (bank (Closed (time 7_507_501)) Never Never)) (refresh 0 ∷ []) 16 tRP 5 []
     ∷ runs-from none (with-bank k (bank (Closed (time 7_507_501)) Never Never)) (load 0 0x30 ∷ []) 16 tRP 5 []
     -- "and no maximum is passed": 13, of an ACTIVE ahead
-    ∷ runs-from (table 0 0 0 0 0 0 0 0 0 0 0 7_812_500 0) (with-bank k (bank (Open 7 (clock 1_002)) Never Never)) (nop 0 255 ∷ []) 0 0 6 []
+    ∷ runs-from (table 0 0 0 0 0 0 0 0 0 0 0 7_812_500 0) (with-bank k (bank (Open 7 (clock 1_002)) Never Never))
+    (nop 0 255 ∷ []) 0 0 6 []
     ∷ []
 
 -- ACTIVE of bank b after one of bank a, whose `active` is like this
@@ -421,9 +441,12 @@ other-active a b =
 -- a refresh, LOAD MODE or PRECHARGE ALL ahead meets no minimum of any executable command
 abbrev ahead-of : Record → List (Row Outcome)
 ahead-of r =
-    runs-from none (with-startup (begun-at (On (clock 0)) (Two (clock 1_002)) (Loaded 0x30 (clock 0))) (replicate 4 long-closed)) (r ∷ []) 16 tRFC 5 []
-    ∷ runs-from none (with-startup (begun-at (On (clock 0)) (Two (clock 900)) (Loaded 0x30 (clock 1_002))) (replicate 4 long-closed)) (r ∷ []) 16 tMRD 5 []
-    ∷ runs-from none (with-startup (begun-at (On (clock 1_002)) (Two (clock 900)) (Loaded 0x30 (clock 0))) (replicate 4 long-closed)) (r ∷ []) 16 tRP 5 []
+    runs-from none (with-startup (begun-at (On (clock 0)) (Two (clock 1_002)) (Loaded 0x30 (clock 0)))
+    (replicate 4 long-closed)) (r ∷ []) 16 tRFC 5 []
+    ∷ runs-from none (with-startup (begun-at (On (clock 0)) (Two (clock 900)) (Loaded 0x30 (clock 1_002)))
+    (replicate 4 long-closed)) (r ∷ []) 16 tMRD 5 []
+    ∷ runs-from none (with-startup (begun-at (On (clock 1_002)) (Two (clock 900)) (Loaded 0x30 (clock 0)))
+    (replicate 4 long-closed)) (r ∷ []) 16 tRP 5 []
     ∷ []
 
 -- at 100,000,500 ps: the last record on clock 2,000 of 50,000 ps, and start-up and banks like this
@@ -433,36 +456,56 @@ late u banks = state 50_000 1 7 5 (On (clock 2_000)) u quiet-bus banks
 abbrev startups : List (Row Outcome)
 startups =
     -- first PRECHARGE ALL, two refreshes, mode loaded, asked in this order: one refresh and a mode loaded, or none
-    from (with-startup (begun-at (On (clock 0)) (One (clock 900)) (Loaded 0x30 (clock 0))) (replicate 4 long-closed)) (active 0 1 7 ∷ []) 14 0 5 []
-    ∷ from (with-startup (begun-at (On (clock 0)) (One (clock 900)) (Loaded 0x30 (clock 0))) (replicate 4 long-closed)) (load 0 0x30 ∷ []) 14 0 5 []
-    ∷ from (with-startup (begun-at (On (clock 0)) (One (clock 900)) (Loaded 0x30 (clock 0))) (replicate 4 long-open)) (read 0 1 0 ∷ []) 14 0 5 []
-    ∷ from (with-startup (begun-at (On (clock 0)) (One (clock 900)) (Loaded 0x30 (clock 0))) (replicate 4 long-open)) (terminate 0 ∷ []) 14 0 5 []
-    ∷ from (with-startup (begun-at (On (clock 0)) None (Loaded 0x30 (clock 0))) (replicate 4 long-closed)) (active 0 1 7 ∷ []) 14 0 5 []
-    ∷ from (with-startup (begun-at (On (clock 0)) None (Loaded 0x30 (clock 0))) (replicate 4 long-closed)) (load 0 0x30 ∷ []) 14 0 5 []
-    ∷ from (with-startup (begun-at (On (clock 0)) None (Loaded 0x30 (clock 0))) (replicate 4 long-closed)) (refresh 0 ∷ refresh 8 ∷ load 8 0x30 ∷ []) 0 0 8 []
-    ∷ from (with-startup (begun-at (On (clock 0)) (One (clock 900)) (Loaded 0x30 (clock 0))) (replicate 4 long-closed)) (refresh 0 ∷ active 8 1 7 ∷ []) 0 0 7 []
+    from (with-startup (begun-at (On (clock 0)) (One (clock 900)) (Loaded 0x30 (clock 0))) (replicate 4 long-closed))
+    (active 0 1 7 ∷ []) 14 0 5 []
+    ∷ from (with-startup (begun-at (On (clock 0)) (One (clock 900)) (Loaded 0x30 (clock 0))) (replicate 4 long-closed))
+    (load 0 0x30 ∷ []) 14 0 5 []
+    ∷ from (with-startup (begun-at (On (clock 0)) (One (clock 900)) (Loaded 0x30 (clock 0))) (replicate 4 long-open))
+    (read 0 1 0 ∷ []) 14 0 5 []
+    ∷ from (with-startup (begun-at (On (clock 0)) (One (clock 900)) (Loaded 0x30 (clock 0))) (replicate 4 long-open))
+    (terminate 0 ∷ []) 14 0 5 []
+    ∷ from (with-startup (begun-at (On (clock 0)) None (Loaded 0x30 (clock 0))) (replicate 4 long-closed)) (active 0 1 7 ∷ [])
+    14 0 5 []
+    ∷ from (with-startup (begun-at (On (clock 0)) None (Loaded 0x30 (clock 0))) (replicate 4 long-closed)) (load 0 0x30 ∷ []) 14
+    0 5 []
+    ∷ from (with-startup (begun-at (On (clock 0)) None (Loaded 0x30 (clock 0))) (replicate 4 long-closed))
+    (refresh 0 ∷ refresh 8 ∷ load 8 0x30 ∷ []) 0 0 8 []
+    ∷ from (with-startup (begun-at (On (clock 0)) (One (clock 900)) (Loaded 0x30 (clock 0))) (replicate 4 long-closed))
+    (refresh 0 ∷ active 8 1 7 ∷ []) 0 0 7 []
     -- no PRECHARGE ALL yet, though all else is done
-    ∷ from (with-startup (begun-at Never (Two (clock 900)) (Loaded 0x30 (clock 0))) (replicate 4 long-closed)) (active 0 1 7 ∷ []) 14 0 5 []
-    ∷ from (with-startup (begun-at Never (Two (clock 900)) (Loaded 0x30 (clock 0))) (replicate 4 long-closed)) (refresh 0 ∷ []) 14 0 5 []
-    ∷ from (with-startup (begun-at Never (Two (clock 900)) (Loaded 0x30 (clock 0))) (replicate 4 long-closed)) (all-banks 0 ∷ []) 14 0 5 []
+    ∷ from (with-startup (begun-at Never (Two (clock 900)) (Loaded 0x30 (clock 0))) (replicate 4 long-closed))
+    (active 0 1 7 ∷ []) 14 0 5 []
+    ∷ from (with-startup (begun-at Never (Two (clock 900)) (Loaded 0x30 (clock 0))) (replicate 4 long-closed)) (refresh 0 ∷ [])
+    14 0 5 []
+    ∷ from (with-startup (begun-at Never (Two (clock 900)) (Loaded 0x30 (clock 0))) (replicate 4 long-closed))
+    (all-banks 0 ∷ []) 14 0 5 []
     -- the first PRECHARGE ALL: 12 and 13 before it
     ∷ from (late (begun-at Never (Two (clock 1_844)) Unloaded) (replicate 4 no-bank)) (all-banks 0 ∷ []) 12 0 5 []
     ∷ from (late (begun-at Never (Two (clock 1_845)) Unloaded) (replicate 4 no-bank)) (all-banks 0 ∷ []) 0 0 6 []
     ∷ from (late (begun-at Never (One (clock 0)) Unloaded) (replicate 4 no-bank)) (all-banks 0 ∷ []) 0 0 6 []
-    ∷ runs-from (table 0 0 0 99_999 0 0 0 0 0 0 0 7_812_500 0) (late not-begun (replicate 4 (bank (Open 7 (clock 1_999)) Never Never))) (all-banks 0 ∷ []) 13 0 5 []
-    ∷ runs-from (table 0 0 0 100_000 0 0 0 0 0 0 0 7_812_500 0) (late not-begun (replicate 4 (bank (Open 7 (clock 1_999)) Never Never))) (all-banks 0 ∷ []) 0 0 6 []
+    ∷ runs-from (table 0 0 0 99_999 0 0 0 0 0 0 0 7_812_500 0)
+    (late not-begun (replicate 4 (bank (Open 7 (clock 1_999)) Never Never))) (all-banks 0 ∷ []) 13 0 5 []
+    ∷ runs-from (table 0 0 0 100_000 0 0 0 0 0 0 0 7_812_500 0)
+    (late not-begun (replicate 4 (bank (Open 7 (clock 1_999)) Never Never))) (all-banks 0 ∷ []) 0 0 6 []
     -- 13 before 14
-    ∷ runs-from (table 0 0 0 99_999 0 0 0 0 0 0 0 7_812_500 0) (late not-begun (replicate 4 (bank (Open 7 (clock 1_999)) Never Never))) (active 0 1 7 ∷ []) 13 0 5 []
+    ∷ runs-from (table 0 0 0 99_999 0 0 0 0 0 0 0 7_812_500 0)
+    (late not-begun (replicate 4 (bank (Open 7 (clock 1_999)) Never Never))) (active 0 1 7 ∷ []) 13 0 5 []
     -- "and has no other condition": neither 15 nor a minimum, of a refresh, a mode load, an ACTIVE, a store, a closing ahead
-    ∷ from (late (begun-at Never (One (clock 2_000)) (Loaded 0x30 (clock 2_000))) (replicate 4 (bank (Open 7 (clock 2_000)) (On (clock 2_000)) (On (clock 2_000))))) (all-banks 0 ∷ []) 0 0 6 []
-    ∷ from (late (begun-at Never None Unloaded) (replicate 4 (bank (Closed (time 900_000_000)) Never Never))) (all-banks 0 ∷ []) 0 0 6 []
+    ∷ from (late (begun-at Never (One (clock 2_000)) (Loaded 0x30 (clock 2_000)))
+    (replicate 4 (bank (Open 7 (clock 2_000)) (On (clock 2_000)) (On (clock 2_000))))) (all-banks 0 ∷ []) 0 0 6 []
+    ∷ from (late (begun-at Never None Unloaded) (replicate 4 (bank (Closed (time 900_000_000)) Never Never))) (all-banks 0 ∷ [])
+    0 0 6 []
     -- only it: a second one needs them
     ∷ from (late (begun-at Never None Unloaded) (replicate 4 no-bank)) (all-banks 0 ∷ all-banks 0 ∷ []) 0 0 7 []
-    ∷ runs-from (huge tRP) (late (begun-at Never None Unloaded) (replicate 4 no-bank)) (all-banks 0 ∷ all-banks 0 ∷ []) 16 tRP 6 []
+    ∷ runs-from (huge tRP) (late (begun-at Never None Unloaded) (replicate 4 no-bank)) (all-banks 0 ∷ all-banks 0 ∷ []) 16 tRP 6
+    []
     -- 12: "no maximum is passed" by a refresh ahead; on the limit
-    ∷ from (with-startup (begun-at (On (clock 0)) (Two (clock 2_000)) Unloaded) (replicate 4 long-closed)) (nop 0 255 ∷ []) 0 0 6 []
-    ∷ runs-from (table 0 0 0 120_000_000 0 0 0 0 0 0 0 7_499 0) (with-startup (begun-at (On (clock 0)) (Two (clock 1_000)) Unloaded) (replicate 4 long-closed)) (nop 0 255 ∷ []) 12 0 5 []
-    ∷ runs-from (table 0 0 0 120_000_000 0 0 0 0 0 0 0 7_500 0) (with-startup (begun-at (On (clock 0)) (Two (clock 1_000)) Unloaded) (replicate 4 long-closed)) (nop 0 255 ∷ []) 0 0 6 []
+    ∷ from (with-startup (begun-at (On (clock 0)) (Two (clock 2_000)) Unloaded) (replicate 4 long-closed)) (nop 0 255 ∷ []) 0 0
+    6 []
+    ∷ runs-from (table 0 0 0 120_000_000 0 0 0 0 0 0 0 7_499 0)
+    (with-startup (begun-at (On (clock 0)) (Two (clock 1_000)) Unloaded) (replicate 4 long-closed)) (nop 0 255 ∷ []) 12 0 5 []
+    ∷ runs-from (table 0 0 0 120_000_000 0 0 0 0 0 0 0 7_500 0)
+    (with-startup (begun-at (On (clock 0)) (Two (clock 1_000)) Unloaded) (replicate 4 long-closed)) (nop 0 255 ∷ []) 0 0 6 []
     -- 16 and 14, 17 and 18: a LOAD MODE in each order
     ∷ runs-from grade-133 (with-startup (up-in 0x30) (replicate 4 long-closed)) (rec 0 LoadMode 1 0x21 255 ∷ []) 17 0 5 []
     ∷ runs-from grade-133 (with-startup (up-in 0x30) (replicate 4 long-closed)) (load 0 0x21 ∷ []) 18 0 5 []

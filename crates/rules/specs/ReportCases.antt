@@ -146,8 +146,10 @@ paged rs ls = page-after Bench 1 7 rs ls (replicate 24 0)
 
 abbrev pages : List (Row (List ℕ))
 pages =
-    paged (ones-to-eight ∷ []) (stores-1 1 7 255 ∷ []) gives (replicate 8 0 ++ (1 ∷ 2 ∷ 3 ∷ 4 ∷ 5 ∷ 6 ∷ 7 ∷ 8 ∷ []) ++ replicate 8 0)
-    ∷ paged (ones-to-eight ∷ []) (stores-1 1 7 0x81 ∷ []) gives (replicate 8 0 ++ (1 ∷ 0 ∷ 0 ∷ 0 ∷ 0 ∷ 0 ∷ 0 ∷ 8 ∷ []) ++ replicate 8 0)
+    paged (ones-to-eight ∷ []) (stores-1 1 7 255 ∷ [])
+    gives (replicate 8 0 ++ (1 ∷ 2 ∷ 3 ∷ 4 ∷ 5 ∷ 6 ∷ 7 ∷ 8 ∷ []) ++ replicate 8 0)
+    ∷ paged (ones-to-eight ∷ []) (stores-1 1 7 0x81 ∷ [])
+    gives (replicate 8 0 ++ (1 ∷ 0 ∷ 0 ∷ 0 ∷ 0 ∷ 0 ∷ 0 ∷ 8 ∷ []) ++ replicate 8 0)
     -- another bank, another row, a READ, no beat: nothing is stored
     ∷ paged (ones-to-eight ∷ []) (stores-1 2 7 255 ∷ []) gives replicate 24 0
     ∷ paged (ones-to-eight ∷ []) (stores-1 1 6 255 ∷ []) gives replicate 24 0
@@ -155,11 +157,13 @@ pages =
     ∷ paged (ones-to-eight ∷ []) (silent ∷ []) gives replicate 24 0
     -- each record's data beside its own beat; of two stores the later
     ∷ paged (data-of 0 ∷ ones-to-eight ∷ []) (silent ∷ stores-1 1 7 1 ∷ []) gives (replicate 8 0 ++ (1 ∷ []) ++ replicate 15 0)
-    ∷ paged (ones-to-eight ∷ data-of 9 ∷ []) (stores-1 1 7 3 ∷ stores-1 1 7 1 ∷ []) gives (replicate 8 0 ++ (9 ∷ 2 ∷ []) ++ replicate 14 0)
+    ∷ paged (ones-to-eight ∷ data-of 9 ∷ []) (stores-1 1 7 3 ∷ stores-1 1 7 1 ∷ [])
+    gives (replicate 8 0 ++ (9 ∷ 2 ∷ []) ++ replicate 14 0)
     -- records after the last line were not taken
     ∷ paged (ones-to-eight ∷ ones-to-eight ∷ []) (silent ∷ []) gives replicate 24 0
     ∷ paged [] (stores-1 1 7 255 ∷ []) gives replicate 24 0
-    ∷ page-after Handheld 1 7 (ones-to-eight ∷ []) (stores-1 1 7 255 ∷ []) (replicate 24 0) gives (replicate 2 0 ++ (1 ∷ 2 ∷ []) ++ replicate 20 0)
+    ∷ page-after Handheld 1 7 (ones-to-eight ∷ []) (stores-1 1 7 255 ∷ []) (replicate 24 0)
+    gives (replicate 2 0 ++ (1 ∷ 2 ∷ []) ++ replicate 20 0)
     ∷ []
 
 -- ── Records one after another, from a state ──
@@ -226,7 +230,8 @@ zeros = replicate 16384 0
 -- refused before any record: with this table, page and state
 abbrev unasked : SpeedTable → ℕ → State → List ℕ → ℕ → Row Left
 unasked t lent s bytes number =
-    records-call (record { table = t }) s bytes (replicate lent 0) (3 ∷ 3 ∷ []) gives left (Refused number 0) 0 (replicate lent 0) (3 ∷ 3 ∷ [])
+    records-call (record { table = t }) s bytes (replicate lent 0) (3 ∷ 3 ∷ [])
+    gives left (Refused number 0) 0 (replicate lent 0) (3 ∷ 3 ∷ [])
 
 -- "a time above 200,000,000"
 abbrev unfit : SpeedTable
@@ -240,7 +245,8 @@ abbrev many : List (Row Left)
 many =
     calls (running 0) (nop-bytes ++ nop-bytes) Taken 2 after-two (word-of 1 ∷ 1_001 ∷ word-of 2 ∷ 1_002 ∷ 3 ∷ 3 ∷ [])
     ∷ calls (running 1) nop-bytes Taken 2 after-one (3 ∷ 3 ∷ word-of 1 ∷ 1_001 ∷ 3 ∷ 3 ∷ [])
-    ∷ calls (running 1) (nop-bytes ++ active-bytes ++ nop-bytes) (Refused 15 0) 2 after-one (3 ∷ 3 ∷ word-of 1 ∷ 1_001 ∷ 3 ∷ 3 ∷ [])
+    ∷ calls (running 1) (nop-bytes ++ active-bytes ++ nop-bytes) (Refused 15 0) 2 after-one
+    (3 ∷ 3 ∷ word-of 1 ∷ 1_001 ∷ 3 ∷ 3 ∷ [])
     ∷ calls (running 7) [] Taken 7 zeros (replicate 6 3)
     -- from record number 2^41: the first as from the one-record call, a second gets 25 with record 0; a refused first one ends it
     ∷ calls (running (2 ^ 41)) nop-bytes Taken (2 ^ 41 + 1) after-one (replicate 6 3)

@@ -252,7 +252,8 @@ cases =
     ∷ answers (with-startup (record { allclosed = On (clock (2 ^ 40 + 1)); refreshes = None; register = Unloaded })) nop 25 0 0
     ∷ answers (with-startup (record { allclosed = Never; refreshes = One (clock (2 ^ 40 + 1)); register = Unloaded })) nop 25 0 0
     ∷ answers (with-startup (record { allclosed = Never; refreshes = Two (clock (2 ^ 40 + 1)); register = Unloaded })) nop 25 0 0
-    ∷ answers (with-startup (record { allclosed = Never; refreshes = None; register = Loaded 0x31 (clock (2 ^ 40 + 1)) })) nop 25 0 0
+    ∷ answers (with-startup (record { allclosed = Never; refreshes = None; register = Loaded 0x31 (clock (2 ^ 40 + 1)) })) nop
+    25 0 0
     ∷ answers (with-startup (record { allclosed = Never; refreshes = None; register = Loaded 0x34 (clock 0) })) nop 25 0 0
     -- a bank: row, clocks, "a time above 2^58 ps"
     ∷ answers (with-bank (bank (Open 8191 (clock (2 ^ 40))) (On (clock (2 ^ 40))) (On (clock (2 ^ 40))))) nop 0 0 5
@@ -282,7 +283,8 @@ cases =
     ∷ answers (begun no-bank) precharge-1 0 0 5
     ∷ answers (begun (bank (Closed (time 0)) Never Never)) active-1 0 0 5
     -- "The first PRECHARGE ALL closes all banks and has no other condition" but its time
-    ∷ answers (state 65_535 0 0 5 (On (clock 1_520)) not-begun quiet-bus (four (bank (Open 7 (clock 1_525)) (On (clock 1_525)) (On (clock 1_525))))) (all-banks 5) 0 0 5
+    ∷ answers (state 65_535 0 0 5 (On (clock 1_520)) not-begun quiet-bus
+    (four (bank (Open 7 (clock 1_525)) (On (clock 1_525)) (On (clock 1_525))))) (all-banks 5) 0 0 5
     ∷ answers (state 65_535 0 0 5 (On (clock 1_519)) not-begun quiet-bus (four no-bank)) (all-banks 5) 14 0 5
     ∷ []
 
