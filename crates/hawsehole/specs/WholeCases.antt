@@ -10,12 +10,13 @@ use Rattle.units.specs.Module.{module-of}
 use Rattle.speed.specs.declared.SpeedTable.{SpeedTable}
 use Rattle.speed.specs.Table.{table, grade-13E, grade-133, table-fits}
 use Rattle.layout.specs.Commands.{column-on}
-use Rattle.layout.specs.Bytes.{has-pins, lane-masks, header-from, read-header, record-from, records-of}
+use Rattle.layout.specs.Bytes.{header-of, has-pins, lane-masks, header-from, record-from, records-of}
 use Rattle.mode.specs.Word.{length-of}
 use Rattle.mode.specs.Order.{beat-column}
 use Rattle.bursts.specs.Burst.{has-beat, write-beat, read-beat, finished}
 use Rattle.bursts.specs.Bus.{masks-on, masks-after, reads-from, bus-after, beat-on, bursts-finished, driven, bus-clear}
 use Rattle.page.specs.Store.{put-lanes, stored}
+use Rattle.rules.specs.declared.Core.{Core}
 use Rattle.rules.specs.Numbers.{number-of, interval-of}
 use Rattle.rules.specs.StartUp.{allowed}
 use Rattle.rules.specs.Banks.{banks-found}
@@ -33,7 +34,7 @@ use Rattle.rules.specs.After.{
   next,
 }
 use Rattle.rules.specs.Run.{run, page-after}
-use Rattle.hawsehole.specs.Trace.{Judged, judge, whole-rules, lent-rules, page-when}
+use Rattle.hawsehole.specs.Trace.{Judged, start-of, judge, whole-rules, lent-rules, page-when}
 use Rattle.hawsehole.specs.Numbers.{with-table}
 use Rattle.hawsehole.specs.Traces.{
   header,
@@ -265,10 +266,17 @@ watching bank row = header 1 7_500 7 2 bank row 0 ++ writing ++ second-beat
 abbrev at-the-end : Judged → Bool
 at-the-end j = eqb (number-of (j .verdict)) 0 && same-numbers (drop 16_375 (j .page)) (255 ∷ first-bytes)
 
+-- period, grade, watched bank and row, and the number of the next record
+abbrev begins : Core → List ℕ
+begins c = c .period .0 ∷ c .grade ∷ c .bank ∷ c .row ∷ c .number ∷ []
+
 abbrev pub with-records : List Bool
 with-records =
+    -- the state before the first record has what the header says: "the state holds period, watched bank and row"
+    same-numbers (begins (start-of (header-of (header 1 7_500 0 2 1 7 0)) .core)) (7_500 ∷ 2 ∷ 1 ∷ 7 ∷ 0 ∷ [])
+    ∷ same-numbers (begins (start-of (header-of (header 1 65_535 9 1 3 8_191 0)) .core)) (65_535 ∷ 1 ∷ 3 ∷ 8_191 ∷ 0 ∷ [])
     -- "A clean trace gives number 0 and its record count"; each record its clock, and the beat on it: kind, bank, row, column, lanes
-    judges 7 (writing ++ second-beat) 0 0 7 both-lines both-columns
+    ∷ judges 7 (writing ++ second-beat) 0 0 7 both-lines both-columns
     ∷ judges 7 (writing ++ nop 0 0xf0 second-data) 0 0 7 (writing-lines ++ (13_361 ∷ 2 ∷ 1 ∷ 7 ∷ 0 ∷ 0x0f ∷ [])) (0x21 ∷ 0x22 ∷ 0x23 ∷ 0x24 ∷ replicate 4 255 ++ first-bytes)
     -- "a beat with no lane stored or driven is reported with lanes 00"
     ∷ judges 7 (writing ++ nop 0 0xff second-data) 0 0 7 (writing-lines ++ (13_361 ∷ 2 ∷ 1 ∷ 7 ∷ 0 ∷ 0x00 ∷ [])) column-1

@@ -375,6 +375,27 @@ bytes-right = tt
 
 -- ── The pins of each module ──
 
+-- a pin for each bit: the bench has A12, DQMB7 and DQ63; of the handheld "A12, DQMB7 to DQMB2 and DQ63 to DQ16 must be zero"
+abbrev pub pin-facts : List Bool
+pin-facts =
+    has-pins Bench 0x1fff 0xff ones
+    ∷ has-pins Handheld 0xfff 0x03 0xffff
+    ∷ not (has-pins Handheld 0x1000 0 0)
+    ∷ not (has-pins Handheld 0 0x04 0)
+    ∷ not (has-pins Handheld 0 0x80 0)
+    ∷ not (has-pins Handheld 0 0 0x10000)
+    ∷ not (has-pins Handheld 0 0 (2 ^ 63))
+    -- the masks of the handheld's absent lanes read HIGH, and a bit that is set there does not change that
+    ∷ eqb (lane-masks Bench 0x5a) 0x5a
+    ∷ eqb (lane-masks Handheld 0x00) 0xfc
+    ∷ eqb (lane-masks Handheld 0x03) 0xff
+    ∷ eqb (lane-masks Handheld 0x04) 0xfc
+    ∷ []
+
+pub pins-right : T (all-true pin-facts)
+unfolding has-pins lane-masks
+pins-right = tt
+
 -- address, masks, zero bits and data of a record; whether number 10 lets it pass, its column, and its masks
 pub record Case : Type 0 where
   pub unit : Module
