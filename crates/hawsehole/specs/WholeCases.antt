@@ -106,6 +106,8 @@ before-records =
     ∷ numbered 1 (good 2 ++ replicate 16 0)
     ∷ numbered 7 (good 2 ++ replicate 32 0)
     ∷ numbered 1 (good 65_535 ++ replicate 16 0)
+    ∷ numbered 7 (good 256 ++ replicate 4_096 0)
+    ∷ numbered 1 (good 256 ++ replicate 4_095 0)
     -- under 16 bytes, though the count is read as 0 of them
     ∷ numbered 1 (1 ∷ 0 ∷ 0x1d ∷ 0x4c ∷ 0 ∷ 0 ∷ 2 ∷ [])
     -- 2, "version not 1"
@@ -203,7 +205,7 @@ shows number interval reported lines start j =
     && same-numbers (take (length start + 48) (j .page)) (start ++ replicate 48 255)
     && eqb (length (j .page)) 16_384
 
--- a trace with this table and header
+-- a trace with this table, over a page of 255s: number, interval, record, lines, and the start of the page
 abbrev judges-by : SpeedTable → List ℕ → ℕ → ℕ → ℕ → List ℕ → List ℕ → Bool
 judges-by t trace number interval reported lines start = shows number interval reported lines start (judge (with-table t) trace page)
 
@@ -240,7 +242,7 @@ both-lines = writing-lines ++ (13_361 ∷ 2 ∷ 1 ∷ 7 ∷ 0 ∷ 0xff ∷ [])
 abbrev both-columns : List ℕ
 both-columns = second-bytes ++ first-bytes
 
--- five NOPs after a READ of column 9, with data on the bus
+-- a READ of column 9 and five NOPs, with data on the bus
 abbrev reading : List ℕ
 reading =
     read 0 1 9
@@ -262,7 +264,7 @@ reading-lines =
 abbrev watching : ℕ → ℕ → List ℕ
 watching bank row = header 1 7_500 7 2 bank row 0 ++ writing ++ second-beat
 
--- the last byte of the page after a WRITE of one beat at the last column, and the byte before that column
+-- clean, and the last column is the first data; the byte before it is as it was
 abbrev at-the-end : Judged → Bool
 at-the-end j = eqb (number-of (j .verdict)) 0 && same-numbers (drop 16_375 (j .page)) (255 ∷ first-bytes)
 

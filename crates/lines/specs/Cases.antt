@@ -4,7 +4,7 @@ use Prim.Native.Char.{code}
 use Prim.Native.String.{String, [] as end, _∷_ as _then_}
 use mathlib.Core.Path.{_≡_, refl}
 use mathlib.Core.List.{List, [], _∷_, _++_}
-use lib.ListN.{replicate}
+use lib.ListN.{length, take, replicate}
 use Rattle.lines.specs.Text.{
   newline,
   space,
@@ -29,7 +29,7 @@ use Rattle.lines.specs.Text.{
   report,
   too-long,
 }
-use Rattle.lines.specs.Place.{Laid, laid, put, lay}
+use Rattle.lines.specs.Place.{Laid, laid, put, lay, Holds}
 
 -- a text as bytes
 abbrev pub text : String → List ℕ
@@ -241,3 +241,13 @@ places =
 pub places-right : prints places ≡ texts places
 unfolding put lay
 places-right = refl
+
+-- a buffer that holds a text has all of it and nothing else, from the buffer's start
+pub holds-all : (wanted buf : List ℕ) (bytes : ℕ) → Holds wanted buf bytes → bytes ≡ length wanted
+holds-all wanted buf bytes h = h .all
+
+pub holds-it : (wanted buf : List ℕ) (bytes : ℕ) → Holds wanted buf bytes → take bytes buf ≡ wanted
+holds-it wanted buf bytes h = h .held
+
+pub holds-ok : Holds (text "OK") (79 ∷ 75 ∷ 0 ∷ []) 2
+holds-ok = record { all = refl; held = refl }
