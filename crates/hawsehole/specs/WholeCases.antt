@@ -277,6 +277,13 @@ with-records =
     -- the state before the first record has what the header says: "the state holds period, watched bank and row"
     same-numbers (begins (start-of (header-of (header 1 7_500 0 2 1 7 0)) .core)) (7_500 ∷ 2 ∷ 1 ∷ 7 ∷ 0 ∷ [])
     ∷ same-numbers (begins (start-of (header-of (header 1 65_535 9 1 3 8_191 0)) .core)) (65_535 ∷ 1 ∷ 3 ∷ 8_191 ∷ 0 ∷ [])
+    -- "1 to 7 .. leave page and state untouched", also where the page has its 16,384 bytes: 1 to 6
+    ∷ judges 3 (up 0x31) 1 0 0 [] []
+    ∷ judges-by grade-133 (header 2 7_500 4 2 1 7 0 ++ up 0x31) 2 0 0 [] []
+    ∷ judges-by grade-133 (header 1 65_536 4 2 1 7 0 ++ up 0x31) 3 0 0 [] []
+    ∷ judges-by grade-133 (header 1 7_500 4 3 1 7 0 ++ up 0x31) 4 0 0 [] []
+    ∷ judges-by grade-133 (header 1 7_500 4 2 1 7 1 ++ up 0x31) 5 0 0 [] []
+    ∷ judges-by bad-table (good 4 ++ up 0x31) 6 0 0 [] []
     -- "A clean trace gives number 0 and its record count"; each record its clock, and the beat on it: kind, bank, row, column, lanes
     ∷ judges 7 (writing ++ second-beat) 0 0 7 both-lines both-columns
     ∷ judges 7 (writing ++ nop 0 0xf0 second-data) 0 0 7 (writing-lines ++ (13_361 ∷ 2 ∷ 1 ∷ 7 ∷ 0 ∷ 0x0f ∷ [])) (0x21 ∷ 0x22 ∷ 0x23 ∷ 0x24 ∷ replicate 4 255 ++ first-bytes)

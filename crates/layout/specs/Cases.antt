@@ -1,8 +1,8 @@
--- Header, record and command bit by bit (01, Trace layout and Commands; 003 table 8), and what a record's bits are to each module (02, K9).
--- Assumes nothing.
+-- Header, record and command bit by bit (01, Trace layout and Commands; 003 table 8), and what a record's bits are to each module
+-- (02, K9). Assumes nothing.
 use Prim.Native.Nat.{ℕ, zero, suc, _+_, _-_, _*_, _^_}
 use mathlib.Core.Path.{_≡_, refl}
-use mathlib.Core.Bool.{Bool, true, false, _&&_, not, cond}
+use mathlib.Core.Bool.{Bool, _&&_, not, cond}
 use mathlib.Core.List.{List, [], _∷_, _++_}
 use lib.Dec.{eqb, T}
 use lib.ListN.{replicate}
@@ -92,7 +92,17 @@ codes (k ∷ more) = code-of k ∷ codes more
 -- a record with this code, BA and address, all its other bits 1
 abbrev of-pins : ℕ → ℕ → ℕ → Record
 of-pins code ba addr =
-    record { skipped = 2 ^ 24 - 1; cke = 1; code = code; ba = ba; addr = addr; column = 2047; masks = 255; zeros = 4095; dq = 2 ^ 64 - 1 }
+    record {
+      skipped = 2 ^ 24 - 1;
+      cke = 1;
+      code = code;
+      ba = ba;
+      addr = addr;
+      column = 2047;
+      masks = 255;
+      zeros = 4095;
+      dq = 2 ^ 64 - 1;
+    }
 
 abbrev pub command-facts : List Bool
 command-facts =
@@ -396,40 +406,23 @@ pub pins-right : T (all-true pin-facts)
 unfolding has-pins lane-masks
 pins-right = tt
 
--- address, masks, zero bits and data of a record; whether number 10 lets it pass, its column, and its masks
-pub record Case : Type 0 where
-  pub unit : Module
-  pub addr : ℕ
-  pub masks : ℕ
-  pub zeros : ℕ
-  pub dq : ℕ
-  pub passes : Bool
-  pub column : ℕ
-  pub read : ℕ
+-- a record with this address, masks, zero bits and data
+abbrev as-read : Module → ℕ → ℕ → ℕ → ℕ → Record
+as-read m addr masks zeros dq = record-from m (addr * 2 ^ 20 + masks * 2 ^ 12 + zeros) dq
 
--- passes number 10, with this column and these masks
-abbrev reads : Module → ℕ → ℕ → ℕ → ℕ → ℕ → Case
+-- number 10 lets it pass, with this column and these masks
+abbrev reads : Module → ℕ → ℕ → ℕ → ℕ → ℕ → Bool
 reads m addr masks dq column read =
-    record { unit = m; addr = addr; masks = masks; zeros = 0; dq = dq; passes = true; column = column; read = read }
+    let r = as-read m addr masks 0 dq in
+    eqb (r .zeros) 0 && eqb (r .column) column && eqb (r .masks) read
 
 -- a bit is set that must be 0, in a record with no other bit of address and data
-abbrev set-in : Module → ℕ → ℕ → ℕ → ℕ → Case
+abbrev set-in : Module → ℕ → ℕ → ℕ → ℕ → Bool
 set-in m addr masks zeros dq =
-    record { unit = m; addr = addr; masks = masks; zeros = zeros; dq = dq; passes = false; column = 0; read = 255 }
+    let r = as-read m addr masks zeros dq in
+    not (eqb (r .zeros) 0) && eqb (r .column) 0 && eqb (r .masks) 255
 
-abbrev as-read : Case → Record
-as-read k = record-from (k .unit) (k .addr * 2 ^ 20 + k .masks * 2 ^ 12 + k .zeros) (k .dq)
-
-abbrev right : Case → Bool
-right k =
-    let r = as-read k in
-    cond (eqb (r .zeros) 0) (k .passes) (not (k .passes)) && eqb (r .column) (k .column) && eqb (r .masks) (k .read)
-
-abbrev all-right : List Case → Bool
-all-right [] = true
-all-right (k ∷ ks) = right k && all-right ks
-
-abbrev pub cases : List Case
+abbrev pub cases : List Bool
 cases =
     -- the bench has a pin for each bit; "Column is A11 then A9 to A0; A12 is ignored", and so is A10
     reads Bench 0x1fff 0xff 0xffffffffffffffff 2_047 0xff
@@ -462,6 +455,6 @@ cases =
     ∷ set-in Handheld 0 0x03 0x001 0
     ∷ []
 
-pub cases-right : T (all-right cases)
+pub cases-right : T (all-true cases)
 unfolding record-from has-pins lane-masks column-on
 cases-right = tt
