@@ -41,7 +41,7 @@ use Rattle.hawsehole.specs.WholeCases.{second-data, writing}
 
 -- ── The answer ──
 
--- "bits 0 to 7 the number, 8 to 15 the interval, 16 to 39 the record"
+-- bits 0 to 7 the number, 8 to 15 the interval, 16 to 39 the record
 abbrev pub words : List Bool
 words =
     eqb (answer-word (ran Taken 0)) 0
@@ -148,7 +148,7 @@ calls-for-c =
     calls refused-trace 20 0x6000b column-1 (six ++ lent 8)
     ∷ calls refused-trace 13 0x6000b column-1 (six ++ lent 1)
     ∷ calls refused-trace 12 0x6000b column-1 six
-    -- "Each word is written where the slice has its place": a clock, a beat, and all but the first have none
+    -- each word is written where the slice has its place: here the last clock has none, then the last beat too, .., then every word
     ∷ calls refused-trace 11 0x6000b column-1 (take 11 six)
     ∷ calls refused-trace 10 0x6000b column-1 (take 10 six)
     ∷ calls refused-trace 3 0x6000b column-1 (0 ∷ 13_334 ∷ 0 ∷ [])
@@ -176,7 +176,7 @@ calls-for-c =
     -- the call before its answer is packed
     ∷ left-by 11 0 6 column-1 (six ++ lent 1) (whole-call (with-table grade-133) refused-trace page (lent 13))
     ∷ left-by 0 0 13 both-columns thirteen (whole-call (with-table grade-133) read-trace page (lent 26))
-    -- "`hawsehole_judge` is the same with no beats"
+    -- the call with no beats lent gives the same answer and the same page
     ∷ leaves-alone 0x6000b column-1 (judge-alone grade-133 refused-trace page)
     ∷ leaves-alone 0xd0000 both-columns (judge-alone grade-133 read-trace page)
     ∷ leaves-alone 0x50110 [] (judge-alone grade-133 (header 1 7_500 6 2 1 7 0 ++ up-active 0x31 ++ read 1 1 0) page)

@@ -29,6 +29,7 @@ use Rattle.lines.specs.Text.{
   report,
   too-long,
 }
+use Rattle.lines.specs.Printed.{three-lines}
 use Rattle.lines.specs.Place.{Laid, laid, put, lay, Holds}
 
 -- a text as bytes
@@ -200,7 +201,9 @@ four = 0 ∷ 10 ∷ packed 2 1 7 5 0xff ∷ 11 ∷ 0 ∷ 12 ∷ packed 1 2 8 6 0
 
 abbrev reports : Table
 reports =
-    (report four (answers 4 0 0), text "W 1 11 1 7 5 ff\nR 3 13 2 8 6 0f\nOK 4\n")
+    -- the printed case in letters
+    (three-lines, text "W 5 13360 1 7 5 ff\nW 6 13361 1 7 4 0f\nOK 8\n")
+    ∷ (report four (answers 4 0 0), text "W 1 11 1 7 5 ff\nR 3 13 2 8 6 0f\nOK 4\n")
     -- only the beats of accepted records: of a refused record and those after it no word is read
     ∷ (report four (answers 3 16 4), text "W 1 11 1 7 5 ff\nREFUSED 3 16 4\n")
     ∷ (report four (answers 2 12 0), text "W 1 11 1 7 5 ff\nREFUSED 2 12 0\n")
