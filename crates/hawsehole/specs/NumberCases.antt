@@ -36,8 +36,17 @@ use Rattle.rules.specs.Run.{run, page-after}
 use Rattle.rules.specs.Report.{Left, ran, beat-word, put-line, lines-into}
 use Rattle.hawsehole.specs.Trace.{judge, whole-rules, lent-rules}
 use Rattle.hawsehole.specs.Numbers.{Answered, Alone, whole-call, answer-word, with-table, judge-beats, judge-alone}
-use Rattle.hawsehole.specs.Traces.{header, bits-of, nop, read, up-active}
-use Rattle.hawsehole.specs.WholeCases.{second-data, writing}
+use Rattle.hawsehole.specs.Traces.{header, bits-of, read, nop, up-active}
+use Rattle.hawsehole.specs.WholeCases.{
+  good,
+  second-data,
+  page,
+  writing,
+  column-1,
+  second-beat,
+  both-columns,
+  reading,
+}
 
 -- ── The answer ──
 
@@ -68,24 +77,15 @@ words-right = tt
 
 -- six records are taken and the seventh, CKE LOW, is refused; one more follows. Bank 1 and row 7 are watched
 abbrev pub refused-trace : List ℕ
-refused-trace = header 1 7_500 8 2 1 7 0 ++ writing ++ bits-of 0 0 7 0 0 0x00 0 second-data ++ nop 0 0x00 second-data
+refused-trace = good 8 ++ writing ++ bits-of 0 0 7 0 0 0x00 0 second-data ++ second-beat
 
 -- a WRITE's two beats and a READ's two, 13 records
 abbrev pub read-trace : List ℕ
-read-trace =
-    header 1 7_500 13 2 1 7 0
-    ++ writing
-    ++ nop 0 0x00 second-data
-    ++ read 0 1 9
-    ++ nop 0 0x0f 0
-    ++ nop 0 0xfe 0
-    ++ nop 0 0 0
-    ++ nop 0 0 0
-    ++ nop 0 0 0
+read-trace = good 13 ++ writing ++ second-beat ++ reading
 
--- a page of 255s
-abbrev page : List ℕ
-page = replicate 16_384 255
+-- READ 2 clocks after ACTIVE (P5), 6 records
+abbrev early-read : List ℕ
+early-read = good 6 ++ up-active 0x31 ++ read 1 1 0
 
 -- so many words, 99 in each
 abbrev lent : ℕ → List ℕ
@@ -97,19 +97,12 @@ six =
     0 ∷ 13_334 ∷ 0 ∷ 13_337 ∷ 0 ∷ 13_346 ∷ 0 ∷ 13_355 ∷ 0 ∷ 13_357
     ∷ 0x020100070001ff ∷ 13_360 ∷ []
 
+-- the same of the 13 records of the other trace: record 6 has the WRITE's second beat, 10 and 11 the READ's, kind 01
 abbrev thirteen : List ℕ
 thirteen =
     six
     ++ (0x020100070000ff ∷ 13_361 ∷ 0 ∷ 13_362 ∷ 0 ∷ 13_363 ∷ 0 ∷ 13_364 ∷ [])
     ++ (0x010100070009f0 ∷ 13_365 ∷ 0x01010007000801 ∷ 13_366 ∷ 0 ∷ 13_367 ∷ [])
-
--- column 1 stored; columns 1 and 0 stored
-abbrev column-1 : List ℕ
-column-1 = replicate 8 255 ++ (0x11 ∷ 0x12 ∷ 0x13 ∷ 0x14 ∷ 0x15 ∷ 0x16 ∷ 0x17 ∷ 0x18 ∷ [])
-
-abbrev both-columns : List ℕ
-both-columns =
-    0x21 ∷ 0x22 ∷ 0x23 ∷ 0x24 ∷ 0x25 ∷ 0x26 ∷ 0x27 ∷ 0x28 ∷ 0x11 ∷ 0x12 ∷ 0x13 ∷ 0x14 ∷ 0x15 ∷ 0x16 ∷ 0x17 ∷ 0x18 ∷ []
 
 -- of a page this is the start, and the column after it is 255; it has 16,384 bytes
 abbrev starts : List ℕ → List ℕ → Bool
@@ -160,27 +153,27 @@ calls-for-c =
     ∷ calls read-trace 26 0xd0000 both-columns thirteen
     ∷ calls read-trace 21 0xd0000 both-columns (take 21 thirteen)
     -- 16 with its interval: READ 2 clocks after ACTIVE. The table is the lent one
-    ∷ calls (header 1 7_500 6 2 1 7 0 ++ up-active 0x31 ++ read 1 1 0) 12 0x50110 [] (take 10 six ++ lent 2)
-    ∷ leaves 0x60000 [] (take 10 six ++ (0 ∷ 13_359 ∷ [])) (judge-beats grade-13E (header 1 7_500 6 2 1 7 0 ++ up-active 0x31 ++ read 1 1 0) page (lent 12))
+    ∷ calls early-read 12 0x50110 [] (take 10 six ++ lent 2)
+    ∷ leaves 0x60000 [] (take 10 six ++ (0 ∷ 13_359 ∷ [])) (judge-beats grade-13E early-read page (lent 12))
     -- no record at all
-    ∷ calls (header 1 7_500 0 2 1 7 0) 2 0 [] (lent 2)
+    ∷ calls (good 0) 2 0 [] (lent 2)
     -- "1 to 7 leave page .. untouched, report record 0 and look at no record": no word is written
     ∷ untouched 1 (short [])
-    ∷ untouched 1 (short (header 1 7_500 2 2 1 7 0 ++ nop 0 255 0))
+    ∷ untouched 1 (short (good 2 ++ nop 0 255 0))
     ∷ untouched 2 (short (header 0 7_500 1 2 1 7 0 ++ nop 0 255 0))
     ∷ untouched 3 (short (header 1 0 1 2 1 7 0 ++ nop 0 255 0))
     ∷ untouched 4 (short (header 1 7_500 1 0 1 7 0 ++ nop 0 255 0))
     ∷ untouched 5 (short (header 1 7_500 1 2 1 7 1 ++ nop 0 255 0))
-    ∷ untouched 6 (judge-beats (table 0 0 0 0 0 0 0 0 0 0 0 0 16) (header 1 7_500 1 2 1 7 0 ++ nop 0 255 0) (1 ∷ 2 ∷ 3 ∷ []) (lent 3))
-    ∷ untouched 7 (short (header 1 7_500 1 2 1 7 0 ++ nop 0 255 0))
+    ∷ untouched 6 (judge-beats (table 0 0 0 0 0 0 0 0 0 0 0 0 16) (good 1 ++ nop 0 255 0) (1 ∷ 2 ∷ 3 ∷ []) (lent 3))
+    ∷ untouched 7 (short (good 1 ++ nop 0 255 0))
     -- the call before its answer is packed
     ∷ left-by 11 0 6 column-1 (six ++ lent 1) (whole-call (with-table grade-133) refused-trace page (lent 13))
     ∷ left-by 0 0 13 both-columns thirteen (whole-call (with-table grade-133) read-trace page (lent 26))
     -- the call with no beats lent gives the same answer and the same page
     ∷ leaves-alone 0x6000b column-1 (judge-alone grade-133 refused-trace page)
     ∷ leaves-alone 0xd0000 both-columns (judge-alone grade-133 read-trace page)
-    ∷ leaves-alone 0x50110 [] (judge-alone grade-133 (header 1 7_500 6 2 1 7 0 ++ up-active 0x31 ++ read 1 1 0) page)
-    ∷ leaves-alone 0x60000 [] (judge-alone grade-13E (header 1 7_500 6 2 1 7 0 ++ up-active 0x31 ++ read 1 1 0) page)
+    ∷ leaves-alone 0x50110 [] (judge-alone grade-133 early-read page)
+    ∷ leaves-alone 0x60000 [] (judge-alone grade-13E early-read page)
     ∷ []
 
 pub calls-right : T (all-true calls-for-c)

@@ -56,7 +56,7 @@ use Rattle.hawsehole.specs.Traces.{
 -- ── Numbers 1 to 7 ──
 
 -- a header of grade -133 with period 7,500, bank 1 and row 7, for so many records
-abbrev good : ℕ → List ℕ
+abbrev pub good : ℕ → List ℕ
 good count = header 1 7_500 count 2 1 7 0
 
 -- a record that is refused wherever it stands: CKE LOW and a zero bit set
@@ -189,7 +189,7 @@ abbrev second-bytes : List ℕ
 second-bytes = 0x21 ∷ 0x22 ∷ 0x23 ∷ 0x24 ∷ 0x25 ∷ 0x26 ∷ 0x27 ∷ 0x28 ∷ []
 
 -- a page of 255s
-abbrev page : List ℕ
+abbrev pub page : List ℕ
 page = replicate 16_384 255
 
 abbrev column-of-255 : List ℕ
@@ -229,21 +229,21 @@ abbrev writing-lines : List ℕ
 writing-lines = active-lines ++ (13_360 ∷ 2 ∷ 1 ∷ 7 ∷ 1 ∷ 0xff ∷ [])
 
 -- what it stores: column 1
-abbrev column-1 : List ℕ
+abbrev pub column-1 : List ℕ
 column-1 = column-of-255 ++ first-bytes
 
 -- the second beat, on a NOP with all masks LOW: column 0
-abbrev second-beat : List ℕ
+abbrev pub second-beat : List ℕ
 second-beat = nop 0 0x00 second-data
 
 abbrev both-lines : List ℕ
 both-lines = writing-lines ++ (13_361 ∷ 2 ∷ 1 ∷ 7 ∷ 0 ∷ 0xff ∷ [])
 
-abbrev both-columns : List ℕ
+abbrev pub both-columns : List ℕ
 both-columns = second-bytes ++ first-bytes
 
 -- a READ of column 9 and five NOPs, with data on the bus
-abbrev reading : List ℕ
+abbrev pub reading : List ℕ
 reading =
     read 0 1 9
     ++ nop 0 0x0f first-data
