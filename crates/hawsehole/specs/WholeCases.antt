@@ -10,7 +10,7 @@ use Rattle.units.specs.Module.{module-of}
 use Rattle.speed.specs.declared.SpeedTable.{SpeedTable}
 use Rattle.speed.specs.Table.{table, grade-13E, grade-133, table-fits}
 use Rattle.layout.specs.Commands.{column-on}
-use Rattle.layout.specs.Bytes.{header-of, has-pins, lane-masks, header-from, record-from, records-of}
+use Rattle.layout.specs.Bytes.{header-of, has-pins, lane-masks, header-from, read-header, record-from, records-of}
 use Rattle.mode.specs.Word.{length-of}
 use Rattle.mode.specs.Order.{beat-column}
 use Rattle.bursts.specs.Burst.{has-beat, write-beat, read-beat, finished}

@@ -421,5 +421,5 @@ pub cases-right :
     × (found refusals ≡ expected refusals)
     × (found bounds ≡ expected bounds)
     × (found places ≡ expected places)
-unfolding module-of column-on has-pins lane-masks table-fits record-from length-of beat-column has-beat write-beat read-beat finished masks-on masks-after reads-from bus-after beat-on bursts-finished driven bus-clear put-lanes stored allowed banks-found of-closing of-any of-active of-access of-precharged of-precharge of-idle events minima every-rules place-rules minimum-rules mode-rules bus-rules command-rules rules ask startup-after beat core-from core-after bank-after commanded mark-banks banks-after next bank-fits burst-fits core-fits fits state-rules entry-rules judged step
+unfolding module-of column-on has-pins lane-masks table-fits record-from read-record length-of beat-column has-beat write-beat read-beat finished masks-on masks-after reads-from bus-after beat-on bursts-finished driven bus-clear put-lanes stored allowed banks-found of-closing of-any of-active of-access of-precharged of-precharge of-idle events minima every-rules place-rules minimum-rules mode-rules bus-rules command-rules rules ask startup-after beat core-from core-after bank-after commanded mark-banks banks-after next bank-fits burst-fits core-fits fits state-rules entry-rules judged step
 cases-right = (refl, refl, refl, refl)
