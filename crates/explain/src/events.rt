@@ -53,7 +53,7 @@ fn on(kind: u8, bank: u8, event: Event, period: Ps) -> Since {
     match event {
         Event::Never => nothing(),
         Event::On(n) => {
-            let time = lasts(n.0, period);
+            let time = lasts(n, period);
             Since { kind, bank, time }
         }
     }
@@ -175,11 +175,11 @@ pub fn running(bus: Bus, n: Clock, period: Ps) -> Unfinished {
     if write.finished(length, n) {
         let start = read.start;
         let since = on(READ_BURST, read.bank, Event::On(start), period);
-        let length = lasts(mode::length_of(read.word) as u64, period);
+        let length = lasts(Clock(mode::length_of(read.word) as u64), period);
         return Unfinished { since, length };
     }
     let start = write.start;
     let since = on(WRITE_BURST, write.bank, Event::On(start), period);
-    let length = lasts(length as u64, period);
+    let length = lasts(Clock(length as u64), period);
     Unfinished { since, length }
 }

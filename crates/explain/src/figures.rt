@@ -3,6 +3,8 @@ ghost use Prim.Native.Nat.{_≤_};
 ghost use mathlib.Core.Path.{_≡_};
 ghost use lib.ListN.{length};
 ghost use Rattle.explain.specs.Figures.{lasts};
+use units::Clock;
+use units::Event;
 use units::Ps;
 
 // No clock of a whole trace is above the first, and no period above the second.
@@ -11,16 +13,16 @@ const CLOCK_MAX: u64 = 2_199_023_255_552;
 const PERIOD_MAX: u64 = 65_535;
 
 // "A count of n clocks lasts n times the period."
-pub fn lasts(n: u64, period: Ps) -> Ps
+pub fn lasts(n: Clock, period: Ps) -> Ps
     ensures { λ r. ⌜ r ≡ lasts n period ⌝ }
 {
-    if CLOCK_MAX < n {
+    if CLOCK_MAX < n.0 {
         return Ps(0);
     }
     if PERIOD_MAX < period.0 {
         return Ps(0);
     }
-    Ps(n * period.0)
+    Ps(n.0 * period.0)
 }
 
 // A number with a space before it.
@@ -82,15 +84,31 @@ pub fn put_word(wanted: bool, w: u64, buf: &mut [u8], at: usize) -> usize {
     at
 }
 
+// The clock that a time stands on: the one whose product with the period it is, or none.
+fn clock_at(p: Ps, period: Ps) -> Event {
+    if period.0 == 0 {
+        return Event::Never;
+    }
+    let n = Clock(p.0 / period.0);
+    let on = lasts(n, period);
+    if on.0 == p.0 {
+        Event::On(n)
+    } else {
+        Event::Never
+    }
+}
+
+// `, on clock 13363` for a time that stands on a clock.
+fn put_clock(clock: Event, buf: &mut [u8], at: usize) -> usize {
+    match clock {
+        Event::Never => at,
+        Event::On(n) => put_if(true, b", on clock", n.0, buf, at),
+    }
+}
+
 // A time that stands on a clock, or between two: `, on clock 13363, at 100222.500 ns.`
 pub fn put_moment(p: Ps, period: Ps, buf: &mut [u8], at: usize) -> usize {
-    let mut clock = 0;
-    let mut on = false;
-    if period.0 != 0 {
-        clock = p.0 / period.0;
-        on = p.0 % period.0 == 0;
-    }
-    let clocked = put_if(on, b", on clock", clock, buf, at);
+    let clocked = put_clock(clock_at(p, period), buf, at);
     let said = lines::put_text(b", at", buf, clocked);
     let timed = put_ns(p, buf, said);
     lines::put_text(b".\n", buf, timed)

@@ -20,15 +20,15 @@ pub struct Held {
 }
 
 // "The first record stands on the clock equal to its skipped count; each later one on the previous clock plus its skipped count plus 1."
-pub fn clock_of(last: Event, skipped: u32) -> u64 {
+pub fn clock_of(last: Event, skipped: u32) -> Clock {
     let skipped = skipped as u64;
     match last {
-        Event::Never => skipped,
+        Event::Never => Clock(skipped),
         Event::On(n) => {
             if n.0 < 1_099_511_627_777 {
-                n.0 + skipped + 1
+                Clock(n.0 + skipped + 1)
             } else {
-                n.0
+                n
             }
         }
     }
@@ -44,7 +44,7 @@ fn minimum(k: u8, t: SpeedTable, period: Ps) -> Ps {
         5 => t.trrd,
         6 => t.trfc,
         7 => t.twr,
-        _ => lasts(t.tmrd.0, period),
+        _ => lasts(t.tmrd, period),
     }
 }
 
@@ -75,10 +75,10 @@ fn closing(r: Record, t: SpeedTable, u: StartUp, active: Ps, now: Ps, period: Ps
     let word = steps::word_in(register);
     let earliest = plus(active, t.trasmin);
     if layout::code_of(layout::command_of(r.code)) == 4 {
-        let length = lasts(mode::write_length(word) as u64, period);
+        let length = lasts(Clock(mode::write_length(word) as u64), period);
         return earliest.later(plus(plus(now, length), t.addition));
     }
-    let length = lasts(mode::length_of(word) as u64, period);
+    let length = lasts(Clock(mode::length_of(word) as u64), period);
     earliest.later(plus(now, length))
 }
 
@@ -138,7 +138,7 @@ pub fn times(h: Halt, t: SpeedTable) -> Held {
     let now = lasts(n, period);
     let none = events::nothing();
     let since = events::counted(counted_by(number, h.interval, r.code), s, r);
-    let burst = events::running(bus, Clock(n), period);
+    let burst = events::running(bus, n, period);
     match number {
         12 => hold(2, t.interval, since, now),
         13 => hold(2, t.trasmax, since, now),
