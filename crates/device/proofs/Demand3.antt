@@ -21,6 +21,7 @@ use Rattle.rules.specs.declared.Verdict.the-variants.{Taken, Refused}
 use Rattle.rules.specs.Numbers.{first-broken}
 use Rattle.rules.specs.Parts.{state-module}
 use Rattle.rules.specs.OneRecord.{state-rules}
+use Rattle.rules.specs.After.{next}
 use Rattle.rules.specs.Run.{Line, Run, run, page-after}
 use Rattle.rules.specs.Report.{lines-into, Left, left, ran, fold, records-rules, room, above-number-max, past-room, records-call}
 use Rattle.rules.specs.Harder.{NowhereHarder}
@@ -39,7 +40,7 @@ unfolding run
 lines-within u s [] = omega arith
 lines-within u s (r ∷ rs) =
     by-answer (λ a. length (a .lines) ≤ length (r ∷ rs)) u s r rs
-    (λ p. omega (arith, lines-within u _ rs))
+    (λ p. omega (arith, lines-within u (next u s r) rs))
     (λ n i p. omega arith)
 
 -- the first k of n records
@@ -95,8 +96,17 @@ module _ (u : Setup) (s : State) (bytes page beats : List ℕ) where
             record {
               page-left = ap (λ (l : Left). l .page) e;
               beats-left = ap (λ (l : Left). l .beats) e;
-              if-clean = λ h. never _ _ (sym (ap (λ (l : Left). l .ran .verdict) (e ∙ ap past-room (fold-run u s seen page beats))) ∙ h);
+              if-clean = λ h. never (run u s seen .verdict) (run u s seen .reported) (sym (ap (λ (l : Left). l .ran .verdict) (e ∙ ap past-room (fold-run u s seen page beats))) ∙ h);
             }
+
+-- how many records a call takes, by what it finds before the first
+module _ (u : Setup) (s : State) (bytes : List ℕ) (lent : ℕ) where
+  taken-some : first-broken (records-rules u s (length bytes) lent) ≡ Taken
+      → taken-in u s bytes lent ≡ length (run u s (records-in s bytes) .lines)
+  taken-some p = rw (p, taken-in)
+
+  taken-none : (n i : ℕ) → first-broken (records-rules u s (length bytes) lent) ≡ Refused n i → taken-in u s bytes lent ≡ 0
+  taken-none n i p = rw (p, taken-in)
 
 -- no records leave page and beats
 module _ (u : Setup) (s : State) (page beats : List ℕ) where
@@ -107,7 +117,7 @@ module _ (u : Setup) (s : State) (page beats : List ℕ) where
       go : (v : Verdict) → first-broken (records-rules u s 0 (length page)) ≡ v
           → (records-call u s [] page beats .page ≡ page) × (records-call u s [] page beats .beats ≡ beats)
       go Taken p =
-          let e = records-entered u s [] page beats p refl in
+          let e = records-entered u s [] page beats p (le-leb (length {A = ℕ} [] / 16) (room s) (omega arith)) in
           (ap (λ (l : Left). l .page) e, ap (λ (l : Left). l .beats) e)
       go (Refused n i) p =
           let e = records-refused u s [] page beats n i p in
@@ -184,14 +194,16 @@ module _ {t u : SpeedTable} (e : NowhereHarder t u) (ft : table-fits t ≡ true)
         let q = sym (alike (length bytes)) ∙ p in
         let f = demand-3 e s rs in
         let c = called (setup t) s bytes page beats p in
+        let some-t = taken-some (setup t) s bytes (length page) p in
+        let some-u = taken-some (setup u) s bytes (length page) q in
         record {
-          never-earlier = rw (p, q) (omega (arith, ap length (f .lines) ∙ length-append (run (setup t) s rs .lines) (f .more)));
+          never-earlier = rw (some-t, some-u) (omega (arith, ap length (f .lines) ∙ length-append (run (setup t) s rs .lines) (f .more)));
           beats-agree =
-              rw p
+              rw some-t
               (ap (λ (l : Left). l .beats) part-run
               ∙ sym (c .beats-left ∙ ap (λ (l : Left). l .beats) (fold-run (setup t) s rs page beats)));
           page-agrees =
-              rw p
+              rw some-t
               (ap (λ (l : Left). l .page) part-run
               ∙ page-by-lines (state-module s) (s .core .bank) (s .core .row) rs (run (setup t) s rs .lines) page
               ∙ sym (c .page-left ∙ ap (λ (l : Left). l .page) (fold-run (setup t) s rs page beats)));
@@ -205,10 +217,12 @@ module _ {t u : SpeedTable} (e : NowhereHarder t u) (ft : table-fits t ≡ true)
   refused n i p =
       let q = sym (alike (length bytes)) ∙ p in
       let gone = records-refused (setup t) s bytes page beats n i p in
+      let none-t = taken-none (setup t) s bytes (length page) n i p in
+      let none-u = taken-none (setup u) s bytes (length page) n i q in
       record {
-        never-earlier = rw (p, q) (omega arith);
-        beats-agree = rw (p, gone) (none-left (setup u) s page beats .1);
-        page-agrees = rw (p, gone) (none-left (setup u) s page beats .0);
+        never-earlier = rw (none-t, none-u) (omega arith);
+        beats-agree = rw (none-t, gone) (none-left (setup u) s page beats .1);
+        page-agrees = rw (none-t, gone) (none-left (setup u) s page beats .0);
         clean =
             λ h.
             let x : _≡_ {A = Verdict} (Refused n i) Taken = sym (ap (λ (l : Left). l .ran .verdict) gone) ∙ h in
