@@ -1,8 +1,7 @@
 -- The bench cases P1 to P12 of document 01: one table under one statement. Assumes nothing.
 use Prim.Native.Nat.{ℕ, zero, suc, _+_}
-use mathlib.Core.Bool.{Bool, true, false, _&&_}
+use mathlib.Core.Path.{_≡_, refl}
 use mathlib.Core.List.{List, [], _∷_, _++_}
-use lib.Dec.{eqb, T}
 use Rattle.units.specs.Time.{time}
 use Rattle.speed.specs.declared.SpeedTable.{SpeedTable}
 use Rattle.speed.specs.Table.{table, grade-13E, grade-133}
@@ -18,7 +17,7 @@ use Rattle.bursts.specs.declared.Beat.{Beat}
 use Rattle.bursts.specs.declared.Beat.the-variants.{Quiet, Stores, Drives}
 use Rattle.bursts.specs.Burst.{has-beat, write-beat, read-beat, finished}
 use Rattle.bursts.specs.Bus.{masks-on, masks-after, reads-from, bus-after, beat-on, bursts-finished, driven, bus-clear}
-use Rattle.bursts.specs.Cases.{Row, _gives_}
+use Rattle.bursts.specs.Cases.{Row, _gives_, found, expected}
 use Rattle.rules.specs.declared.State.{State}
 use Rattle.rules.specs.declared.Setup.{Setup}
 use Rattle.rules.specs.Numbers.{number-of, interval-of, tRCD, tRP, tRFC, tWR}
@@ -144,32 +143,6 @@ outcome number interval reported beats = record { number = number; interval = in
 abbrev pub with-133 : Setup
 with-133 = record { table = grade-133 }
 
--- two reported beats agree in each part
-abbrev pub same-beat : Reported → Reported → Bool
-same-beat (W k n b r c l) (W k′ n′ b′ r′ c′ l′) = eqb k k′ && eqb n n′ && eqb b b′ && eqb r r′ && eqb c c′ && eqb l l′
-same-beat (W k n b r c l) (R k′ n′ b′ r′ c′ l′) = false
-same-beat (R k n b r c l) (W k′ n′ b′ r′ c′ l′) = false
-same-beat (R k n b r c l) (R k′ n′ b′ r′ c′ l′) = eqb k k′ && eqb n n′ && eqb b b′ && eqb r r′ && eqb c c′ && eqb l l′
-
-abbrev pub same-beats : List Reported → List Reported → Bool
-same-beats [] [] = true
-same-beats [] (y ∷ ys) = false
-same-beats (x ∷ xs) [] = false
-same-beats (x ∷ xs) (y ∷ ys) = same-beat x y && same-beats xs ys
-
-abbrev pub same : Outcome → Outcome → Bool
-same a b =
-    eqb (a .number) (b .number)
-    && eqb (a .interval) (b .interval)
-    && eqb (a .reported) (b .reported)
-    && same-beats (a .beats) (b .beats)
-
--- each row gives what it should. To see which one does not, prove `found l ≡ expected l` by refl of a part of the list: the checker then
--- shows the value that differs
-abbrev pub all-right : List (Row Outcome) → Bool
-all-right [] = true
-all-right (r ∷ rs) = same (r .found) (r .expected) && all-right rs
-
 -- records from a state, and what they give
 abbrev pub runs-from : SpeedTable → State → List Record → ℕ → ℕ → ℕ → List Reported → Row Outcome
 runs-from t s rs number interval reported beats =
@@ -252,6 +225,6 @@ bench =
     ∷ refuses own-table 7500 (up-active 0x31 (nop 16000 255 ∷ [])) 13 0 5
     ∷ []
 
-pub bench-right : T (all-right bench)
+pub bench-right : found bench ≡ expected bench
 unfolding module-of length-of beat-column has-beat write-beat read-beat finished masks-on masks-after reads-from bus-after beat-on bursts-finished driven bus-clear allowed banks-found of-closing of-any of-active of-access of-precharged of-precharge of-idle events minima every-rules place-rules minimum-rules mode-rules bus-rules command-rules rules ask startup-after beat core-from core-after bank-after commanded mark-banks banks-after next run
-bench-right = tt
+bench-right = refl

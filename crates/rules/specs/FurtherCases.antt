@@ -1,8 +1,7 @@
 -- What P1 to P12 leave open: rows that shut out judges which get those right. From document 01's sentences. Assumes nothing.
 use Prim.Native.Nat.{ℕ}
-use mathlib.Core.Bool.{_&&_}
+use mathlib.Core.Path.{_≡_, refl}
 use mathlib.Core.List.{List, [], _∷_}
-use lib.Dec.{T}
 use Rattle.speed.specs.declared.SpeedTable.{SpeedTable}
 use Rattle.speed.specs.Table.{table, grade-133}
 use Rattle.units.specs.Module.{module-of}
@@ -13,7 +12,7 @@ use Rattle.mode.specs.Word.{length-of}
 use Rattle.mode.specs.Order.{beat-column}
 use Rattle.bursts.specs.Burst.{has-beat, write-beat, read-beat, finished}
 use Rattle.bursts.specs.Bus.{masks-on, masks-after, reads-from, bus-after, beat-on, bursts-finished, driven, bus-clear}
-use Rattle.bursts.specs.Cases.{Row}
+use Rattle.bursts.specs.Cases.{Row, found, expected}
 use Rattle.rules.specs.Numbers.{tRAS, tRC, tRP, tRRD, tMRD}
 use Rattle.rules.specs.StartUp.{allowed}
 use Rattle.rules.specs.Banks.{banks-found}
@@ -50,7 +49,6 @@ use Rattle.rules.specs.Cases.{
   R,
   Ws,
   Outcome,
-  all-right,
   runs,
   refuses,
   takes,
@@ -163,6 +161,7 @@ further =
     ∷ []
 
 -- those, which rule comes first (`OrderCases`), and each minimum with each command (`MinimaCases`)
-pub further-right : T (all-right further && all-right all-orders && all-right all-minima)
+pub further-right :
+    (found further ≡ expected further) × (found all-orders ≡ expected all-orders) × (found all-minima ≡ expected all-minima)
 unfolding module-of length-of beat-column has-beat write-beat read-beat finished masks-on masks-after reads-from bus-after beat-on bursts-finished driven bus-clear allowed banks-found of-closing of-any of-active of-access of-precharged of-precharge of-idle events minima every-rules place-rules minimum-rules mode-rules bus-rules command-rules rules ask startup-after beat core-from core-after bank-after commanded mark-banks banks-after next run
-further-right = tt
+further-right = (refl, refl, refl)

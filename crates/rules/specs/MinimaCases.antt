@@ -106,34 +106,36 @@ ready word =
     (record { write = idle; reads = idle ∷ idle ∷ idle ∷ idle ∷ []; masks = all-masks-high })
     (closed ∷ closed ∷ closed ∷ closed ∷ [])
 
--- after `up` in this mode and these records, which report `before`: refused with interval k after so many skipped clocks, taken after one
--- more, then reporting `then` too
-abbrev sides-with : SpeedTable → ℕ → ℕ → ℕ → List Record → List Reported → (ℕ → Record) → List Reported → List (Row Outcome)
-sides-with t k skipped word rs before command then =
-    runs-from t (ready word) (rs ++ (command skipped ∷ [])) 16 k (4 + length rs) before
-    ∷ runs-from t (ready word) (rs ++ (command (suc skipped) ∷ [])) 0 0 (5 + length rs) (before ++ then)
+-- after `up` in this mode and these records, which report `before`, the next one is number `k`: refused with this interval after so many
+-- skipped clocks, taken after one more, then reporting `then` too
+abbrev sides-with : SpeedTable → ℕ → ℕ → ℕ → ℕ → List Record → List Reported → (ℕ → Record) → List Reported → List (Row Outcome)
+sides-with t interval skipped k word rs before command then =
+    runs-from t (ready word) (rs ++ (command skipped ∷ [])) 16 interval k before
+    ∷ runs-from t (ready word) (rs ++ (command (suc skipped) ∷ [])) 0 0 (suc k) (before ++ then)
     ∷ []
 
--- where no beat is reported
-abbrev sides : SpeedTable → ℕ → ℕ → List Record → (ℕ → Record) → List (Row Outcome)
-sides t k skipped rs command = sides-with t k skipped 0x30 rs [] command []
+-- in mode 0030, where no beat is reported
+abbrev sides : SpeedTable → ℕ → ℕ → ℕ → List Record → (ℕ → Record) → List (Row Outcome)
+sides t interval skipped k rs command = sides-with t interval skipped k 0x30 rs [] command []
 
 -- PRECHARGE of bank b and of all; AUTO REFRESH and LOAD MODE
-abbrev closers : SpeedTable → ℕ → ℕ → ℕ → List Record → List Reported → ℕ → List (Row Outcome)
-closers t k skipped word rs before b =
-    sides-with t k skipped word rs before (λ s. precharge s b) [] ++ sides-with t k skipped word rs before (λ s. all-banks s) []
+abbrev closers : SpeedTable → ℕ → ℕ → ℕ → ℕ → List Record → List Reported → ℕ → List (Row Outcome)
+closers t interval skipped k word rs before b =
+    sides-with t interval skipped k word rs before (λ s. precharge s b) []
+    ++ sides-with t interval skipped k word rs before (λ s. all-banks s) []
 
-abbrev idlers : SpeedTable → ℕ → ℕ → List Record → List Reported → List (Row Outcome)
-idlers t k skipped rs before =
-    sides-with t k skipped 0x30 rs before (λ s. refresh s) [] ++ sides-with t k skipped 0x30 rs before (λ s. load s 0x30) []
+abbrev idlers : SpeedTable → ℕ → ℕ → ℕ → List Record → List Reported → List (Row Outcome)
+idlers t interval skipped k rs before =
+    sides-with t interval skipped k 0x30 rs before (λ s. refresh s) []
+    ++ sides-with t interval skipped k 0x30 rs before (λ s. load s 0x30) []
 
 -- every executable command that finds all banks closed: but READ and WRITE
-abbrev all-six : SpeedTable → ℕ → ℕ → List Record → ℕ → List (Row Outcome)
-all-six t k skipped rs b =
-    closers t k skipped 0x30 rs [] b
-    ++ idlers t k skipped rs []
-    ++ sides t k skipped rs (λ s. active s b 7)
-    ++ sides t k skipped rs (λ s. terminate s)
+abbrev all-six : SpeedTable → ℕ → ℕ → ℕ → List Record → ℕ → List (Row Outcome)
+all-six t interval skipped k rs b =
+    closers t interval skipped k 0x30 rs [] b
+    ++ idlers t interval skipped k rs []
+    ++ sides t interval skipped k rs (λ s. active s b 7)
+    ++ sides t interval skipped k rs (λ s. terminate s)
 
 -- start-up with 1,500,000 ps after the first PRECHARGE ALL, its mode loaded on 13,545
 abbrev up-late : ℕ → List Record → List Record
@@ -143,8 +145,8 @@ up-late word rs = all-banks 13334 ∷ refresh 200 ∷ refresh 4 ∷ load 4 word 
 
 abbrev rcd : ℕ → List (Row Outcome)
 rcd b =
-    sides (of-rcd three) tRCD 1 (active 1 b 7 ∷ []) (λ s. read s b 0)
-    ++ sides-with (of-rcd three) tRCD 1 0x30 (active 1 b 7 ∷ []) [] (λ s. write s b 0) (W 5 13360 b 7 0 255 ∷ [])
+    sides (of-rcd three) tRCD 1 5 (active 1 b 7 ∷ []) (λ s. read s b 0)
+    ++ sides-with (of-rcd three) tRCD 1 5 0x30 (active 1 b 7 ∷ []) [] (λ s. write s b 0) (W 5 13360 b 7 0 255 ∷ [])
 
 -- no other command asks it
 abbrev not-rcd : List (Row Outcome)
@@ -158,7 +160,7 @@ not-rcd =
 -- ── tRAS: "an open bank needs tRAS min" ──
 
 abbrev ras : ℕ → List (Row Outcome)
-ras b = closers (of-ras three) tRAS 1 0x30 (active 1 b 7 ∷ []) [] b
+ras b = closers (of-ras three) tRAS 1 5 0x30 (active 1 b 7 ∷ []) [] b
 
 -- not READ, WRITE, ACTIVE or BURST TERMINATE, and not PRECHARGE of another bank
 abbrev not-ras : List (Row Outcome)
@@ -171,14 +173,14 @@ not-ras =
 -- ── tRC: "since its last ACTIVE", on 13,357, closed since ──
 
 abbrev rc : ℕ → List (Row Outcome)
-rc b = sides (of-rc 45_000) tRC 3 (active 1 b 7 ∷ precharge 0 b ∷ []) (λ s. active s b 8)
+rc b = sides (of-rc 45_000) tRC 3 6 (active 1 b 7 ∷ precharge 0 b ∷ []) (λ s. active s b 8)
 
 -- closed by PRECHARGE ALL and by auto precharge; the last of two
 abbrev rc-else : List (Row Outcome)
 rc-else =
-    sides (of-rc 45_000) tRC 3 (active 1 2 7 ∷ all-banks 0 ∷ []) (λ s. active s 2 8)
-    ++ sides (of-rc 60_000) tRC 5 (active 1 2 7 ∷ read 0 2 (with-a10 0) ∷ []) (λ s. active s 2 8)
-    ++ sides (of-rc 45_000) tRC 3 (active 1 2 7 ∷ precharge 0 2 ∷ active 4 2 8 ∷ precharge 0 2 ∷ []) (λ s. active s 2 9)
+    sides (of-rc 45_000) tRC 3 6 (active 1 2 7 ∷ all-banks 0 ∷ []) (λ s. active s 2 8)
+    ++ sides (of-rc 60_000) tRC 5 6 (active 1 2 7 ∷ read 0 2 (with-a10 0) ∷ []) (λ s. active s 2 8)
+    ++ sides (of-rc 45_000) tRC 3 8 (active 1 2 7 ∷ precharge 0 2 ∷ active 4 2 8 ∷ precharge 0 2 ∷ []) (λ s. active s 2 9)
 
 -- not of another bank; no other command asks it
 abbrev not-rc : List (Row Outcome)
@@ -193,15 +195,15 @@ not-rc =
 -- ── tRRD: "since the last ACTIVE of another bank", on 13,357 ──
 
 abbrev rrd : ℕ → ℕ → List (Row Outcome)
-rrd a b = sides (of-rrd three) tRRD 1 (active 1 a 7 ∷ []) (λ s. active s b 8)
+rrd a b = sides (of-rrd three) tRRD 1 5 (active 1 a 7 ∷ []) (λ s. active s b 8)
 
 -- closed since
 abbrev rrd-closed : ℕ → ℕ → List (Row Outcome)
-rrd-closed a b = sides (of-rrd three) tRRD 0 (active 1 a 7 ∷ precharge 0 a ∷ []) (λ s. active s b 8)
+rrd-closed a b = sides (of-rrd three) tRRD 0 6 (active 1 a 7 ∷ precharge 0 a ∷ []) (λ s. active s b 8)
 
 -- the last of two others
 abbrev rrd-last : ℕ → ℕ → ℕ → List (Row Outcome)
-rrd-last a b c = sides (of-rrd three) tRRD 1 (active 1 a 7 ∷ active 2 b 7 ∷ []) (λ s. active s c 8)
+rrd-last a b c = sides (of-rrd three) tRRD 1 6 (active 1 a 7 ∷ active 2 b 7 ∷ []) (λ s. active s c 8)
 
 -- not of its own bank; no other command asks it
 abbrev not-rrd : List (Row Outcome)
@@ -239,23 +241,23 @@ rrds =
 
 -- a PRECHARGE ALL of banks long closed, on 13,376, holds back each of these
 abbrev rp-all : List (Row Outcome)
-rp-all = all-six (of-rp three) tRP 1 (all-banks 20 ∷ []) 2
+rp-all = all-six (of-rp three) tRP 1 5 (all-banks 20 ∷ []) 2
 
 -- the closing of bank b, open since 13,357, by PRECHARGE and by PRECHARGE ALL on 13,358: PRECHARGE, AUTO REFRESH and LOAD MODE ask it of
 -- each bank, ACTIVE of its own
 abbrev rp : ℕ → List (Row Outcome)
 rp b =
-    closers (of-rp three) tRP 1 0x30 (active 1 b 7 ∷ precharge 0 b ∷ []) [] b
-    ++ idlers (of-rp three) tRP 1 (active 1 b 7 ∷ precharge 0 b ∷ []) []
-    ++ sides (of-rp three) tRP 1 (active 1 b 7 ∷ precharge 0 b ∷ []) (λ s. active s b 8)
-    ++ sides (of-rp three) tRP 1 (active 1 b 7 ∷ all-banks 0 ∷ []) (λ s. active s b 8)
+    closers (of-rp three) tRP 1 6 0x30 (active 1 b 7 ∷ precharge 0 b ∷ []) [] b
+    ++ idlers (of-rp three) tRP 1 6 (active 1 b 7 ∷ precharge 0 b ∷ []) []
+    ++ sides (of-rp three) tRP 1 6 (active 1 b 7 ∷ precharge 0 b ∷ []) (λ s. active s b 8)
+    ++ sides (of-rp three) tRP 1 6 (active 1 b 7 ∷ all-banks 0 ∷ []) (λ s. active s b 8)
 
 -- by auto precharge of a READ or a WRITE, at the end of 13,358
 abbrev rp-auto : ℕ → Record → List Reported → List (Row Outcome)
 rp-auto b burst before =
-    closers (of-rp three) tRP 2 0x30 (active 1 b 7 ∷ burst ∷ []) before b
-    ++ idlers (of-rp three) tRP 2 (active 1 b 7 ∷ burst ∷ []) before
-    ++ sides-with (of-rp three) tRP 2 0x30 (active 1 b 7 ∷ burst ∷ []) before (λ s. active s b 8) []
+    closers (of-rp three) tRP 2 6 0x30 (active 1 b 7 ∷ burst ∷ []) before b
+    ++ idlers (of-rp three) tRP 2 6 (active 1 b 7 ∷ burst ∷ []) before
+    ++ sides-with (of-rp three) tRP 2 6 0x30 (active 1 b 7 ∷ burst ∷ []) before (λ s. active s b 8) []
 
 -- the closing of bank 1 holds back no ACTIVE, READ, WRITE or PRECHARGE of another bank, and no BURST TERMINATE
 abbrev not-rp : List (Row Outcome)
@@ -291,14 +293,14 @@ rfc =
     ++ both-sides (all-banks 13334 ∷ refresh 0 ∷ refresh 2 ∷ []) (λ s. refresh s)
     ++ both-sides (all-banks 13334 ∷ refresh 0 ∷ refresh 2 ∷ []) (λ s. load s 0x30)
     -- one after the mode is loaded
-    ++ all-six (of-rfc three) tRFC 1 (refresh 20 ∷ []) 2
+    ++ all-six (of-rfc three) tRFC 1 5 (refresh 20 ∷ []) 2
 
 -- ── tMRD: "since the last mode load", in clocks ──
 
 abbrev mrd : List (Row Outcome)
 mrd =
-    all-six (of-mrd 3) tMRD 1 [] 2
-    ++ all-six (of-mrd 3) tMRD 1 (load 20 0x31 ∷ []) 2
+    all-six (of-mrd 3) tMRD 1 4 [] 2
+    ++ all-six (of-mrd 3) tMRD 1 5 (load 20 0x31 ∷ []) 2
     -- of another period: three clocks still
     ++ (refuses (of-mrd 3) 9000 (up 0x30 (terminate 1 ∷ [])) 16 tMRD 4
     ∷ takes (of-mrd 3) 9000 (up 0x30 (terminate 2 ∷ [])) 5
@@ -308,16 +310,16 @@ mrd =
 -- ── tWR: "since the last clock on which a byte was stored in it", here 13,358 ──
 
 abbrev wr : ℕ → List (Row Outcome)
-wr b = closers (of-wr three) tWR 1 0x30 (active 1 b 7 ∷ write 0 b 0 ∷ []) (W 5 13358 b 7 0 255 ∷ []) b
+wr b = closers (of-wr three) tWR 1 6 0x30 (active 1 b 7 ∷ write 0 b 0 ∷ []) (W 5 13358 b 7 0 255 ∷ []) b
 
 abbrev wr-else : List (Row Outcome)
 wr-else =
     -- one byte is enough
-    closers (of-wr three) tWR 1 0x30 (active 1 2 7 ∷ rec 0 Write 2 0 0x7f ∷ []) (W 5 13358 2 7 0 0x80 ∷ []) 2
+    closers (of-wr three) tWR 1 6 0x30 (active 1 2 7 ∷ rec 0 Write 2 0 0x7f ∷ []) (W 5 13358 2 7 0 0x80 ∷ []) 2
     -- the second beat stores, or is masked
-    ++ closers (of-wr three) tWR 1 0x31 (active 1 2 7 ∷ write 0 2 0 ∷ nop 0 0xfe ∷ [])
+    ++ closers (of-wr three) tWR 1 7 0x31 (active 1 2 7 ∷ write 0 2 0 ∷ nop 0 0xfe ∷ [])
     (W 5 13358 2 7 0 255 ∷ W 6 13359 2 7 1 1 ∷ []) 2
-    ++ closers (of-wr three) tWR 0 0x31 (active 1 2 7 ∷ write 0 2 0 ∷ nop 0 0xff ∷ [])
+    ++ closers (of-wr three) tWR 0 7 0x31 (active 1 2 7 ∷ write 0 2 0 ∷ nop 0 0xff ∷ [])
     (W 5 13358 2 7 0 255 ∷ W 6 13359 2 7 1 0 ∷ []) 2
     -- none is stored: nothing to count from
     ++ (reports (of-wr 1_000_000) 7500 (up 0x30 (active 1 2 7 ∷ rec 0 Write 2 0 255 ∷ precharge 0 2 ∷ [])) 7
@@ -339,7 +341,7 @@ not-wr =
 -- the bank's ACTIVE stands on 13,357 and its burst on 13,358; then ACTIVE again, before the closing time and not
 abbrev closes : ℕ → ℕ → ℕ → ℕ → Record → List Reported → List Reported → List (Row Outcome)
 closes trasmin addition skipped word burst before then =
-    sides-with (closed-by trasmin addition) tRP skipped word (active 1 1 7 ∷ burst ∷ []) before (λ s. active s 1 8) then
+    sides-with (closed-by trasmin addition) tRP skipped 6 word (active 1 1 7 ∷ burst ∷ []) before (λ s. active s 1 8) then
 
 abbrev closings : List (Row Outcome)
 closings =

@@ -1,9 +1,10 @@
 -- "The rules are read on the state's own parts, so a state that no trace reaches has one fixed answer too": rows from such states. From
 -- document 01's sentences and docs/DECISIONS.md, 13. Assumes nothing.
 use Prim.Native.Nat.{ℕ, zero, suc, _+_, _^_}
-use mathlib.Core.Bool.{Bool, true, false, _&&_, cond}
+use mathlib.Core.Path.{_≡_, refl}
+use mathlib.Core.Bool.{Bool, true, false, cond}
 use mathlib.Core.List.{List, [], _∷_, _++_}
-use lib.Dec.{leb, eqb, T}
+use lib.Dec.{leb, eqb}
 use lib.ListN.{set, replicate}
 use Rattle.units.specs.declared.Event.{Event}
 use Rattle.units.specs.declared.Event.the-variants.{Never, On}
@@ -31,7 +32,7 @@ use Rattle.bursts.specs.Bus.{
   driven,
   bus-clear,
 }
-use Rattle.bursts.specs.Cases.{Row}
+use Rattle.bursts.specs.Cases.{Row, _gives_, found, expected}
 use Rattle.rules.specs.declared.Refreshes.{Refreshes}
 use Rattle.rules.specs.declared.Refreshes.the-variants.{None, One, Two}
 use Rattle.rules.specs.declared.Register.{Register}
@@ -74,7 +75,6 @@ use Rattle.rules.specs.Cases.{
   W,
   R,
   Outcome,
-  all-right,
   runs-from,
 }
 use Rattle.rules.specs.StateCases.{not-begun, over, state, bank, in-place, bank-in}
@@ -535,14 +535,13 @@ aheads =
     ++ other-active 3 2
 
 pub odd-right :
-    T
-    (all-right cuts
-    && all-right (in-places cut-reads)
-    && all-right (in-places survives)
-    && all-right rooms
-    && all-right matrix
-    && all-right (in-places by-bank)
-    && all-right startups
-    && all-right aheads)
+    (found cuts ≡ expected cuts)
+    × (found (in-places cut-reads) ≡ expected (in-places cut-reads))
+    × (found (in-places survives) ≡ expected (in-places survives))
+    × (found rooms ≡ expected rooms)
+    × (found matrix ≡ expected matrix)
+    × (found (in-places by-bank) ≡ expected (in-places by-bank))
+    × (found startups ≡ expected startups)
+    × (found aheads ≡ expected aheads)
 unfolding module-of length-of beat-column has-beat write-beat read-beat finished masks-on masks-after reads-from bus-after beat-on bursts-finished driven bus-clear allowed banks-found of-closing of-any of-active of-access of-precharged of-precharge of-idle events minima every-rules place-rules minimum-rules mode-rules bus-rules command-rules rules ask startup-after beat core-from core-after bank-after commanded mark-banks banks-after next run
-odd-right = tt
+odd-right = (refl, refl, refl, refl, refl, refl, refl, refl)
