@@ -155,6 +155,11 @@ orders =
     ∷ takes (no-minima 0 75_000 0) 7500 (up-active 0x31 (read 2 1 (with-a10 0) ∷ nop 50 255 ∷ [])) 7
     -- "Then PRECHARGE and AUTO REFRESH": of one bank too
     ∷ takes grade-133 7500 (all-banks 13334 ∷ precharge 2 1 ∷ []) 2
+    -- "at 100,000,000 ps or later": exactly then, and a picosecond before
+    ∷ takes grade-133 50_000 (all-banks 2_000 ∷ []) 1
+    ∷ refuses grade-133 50_000 (all-banks 1_999 ∷ []) 14 0 0
+    ∷ refuses grade-133 10_001 (all-banks 9_999 ∷ []) 14 0 0
+    ∷ takes grade-133 10_001 (all-banks 10_000 ∷ []) 1
     -- 15 of a WRITE; of a READ and a WRITE in a bank under auto precharge
     ∷ refuses grade-133 7500 (up 0x30 (write 5 1 0 ∷ [])) 15 0 4
     ∷ runs grade-133 7500 (up-active 0x30 (write 2 1 (with-a10 0) ∷ read 5 1 0 ∷ [])) 15 0 6 (Ws 5 13360 (0 ∷ []))

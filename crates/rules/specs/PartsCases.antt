@@ -13,7 +13,7 @@ use Rattle.speed.specs.declared.SpeedTable.{SpeedTable}
 use Rattle.speed.specs.Table.{table, grade-133}
 use Rattle.units.specs.Module.{module-of}
 use Rattle.layout.specs.declared.Record.{Record}
-use Rattle.layout.specs.declared.Command.the-variants.{Inhibit, Precharge, LoadMode}
+use Rattle.layout.specs.declared.Command.the-variants.{Inhibit, Nop, Terminate, Precharge, Refresh, LoadMode}
 use Rattle.mode.specs.Word.{length-of}
 use Rattle.mode.specs.Order.{beat-column}
 use Rattle.bursts.specs.declared.Burst.{Burst}
@@ -534,6 +534,72 @@ aheads =
     ++ other-active 2 3
     ++ other-active 3 2
 
+-- ── Rules that a command does not ask ──
+
+-- an auto precharge READ of bank 1 with length 8, registered on 1,000, is unfinished; a READ since 998 drives all lanes on 1,001
+abbrev unfinished : List Bank → State
+unfinished banks =
+    at-1000 over
+    (bus no-burst
+    (in-place 0
+    (record { live = true; auto = true; bank = 1; row = 7; column = 0; start = clock 1_000; cut = Never; word = 0x33 })))
+    banks
+
+abbrev drives-now : List Bank → State
+drives-now banks = at-1000 over (bus no-burst (in-place 0 (burst 0 998 Never 0x33))) banks
+
+abbrev all-closed : List Bank
+all-closed = replicate 4 long-closed
+
+-- one record taken, which reports these beats
+abbrev passes : State → Record → List Reported → Row Outcome
+passes s r beats = from s (r ∷ []) 0 0 6 beats
+
+-- the beat that is driven on 1,001
+abbrev now : List Reported
+now = R 5 1_001 1 7 0 255 ∷ []
+
+abbrev unasked : List (Row Outcome)
+unasked =
+    -- 19: READ, WRITE and BURST TERMINATE only
+    from (unfinished two-open) (read 0 2 0 ∷ []) 19 0 5 []
+    ∷ from (unfinished two-open) (write 0 2 0 ∷ []) 19 0 5 []
+    ∷ from (unfinished two-open) (terminate 0 ∷ []) 19 0 5 []
+    ∷ passes (unfinished two-open) (active 0 0 7) []
+    ∷ passes (unfinished two-open) (precharge 0 2) []
+    ∷ passes (unfinished two-open) (all-banks 0) []
+    ∷ passes (unfinished two-open) (nop 0 255) []
+    ∷ passes (unfinished all-closed) (refresh 0) []
+    ∷ passes (unfinished all-closed) (load 0 0x30) []
+    -- 20: WRITE only
+    ∷ from (drives-now two-open) (write 0 2 0 ∷ []) 20 0 5 []
+    ∷ passes (drives-now two-open) (read 0 2 0) now
+    ∷ passes (drives-now two-open) (terminate 0) now
+    ∷ passes (drives-now two-open) (active 0 0 7) now
+    ∷ passes (drives-now two-open) (precharge 0 2) now
+    ∷ passes (drives-now two-open) (precharge 0 1) now
+    ∷ passes (drives-now two-open) (all-banks 0) now
+    ∷ passes (drives-now all-closed) (refresh 0) now
+    ∷ passes (drives-now all-closed) (load 0 0x30) now
+    -- 17 and 18: LOAD MODE only. Address 0020 is a word with CL 2, too fast for -133, and 0004 a reserved one
+    ∷ passes (at-1000 over quiet-bus two-open) (active 0 0 0x20) []
+    ∷ passes (at-1000 over quiet-bus two-open) (read 0 1 0x20) []
+    ∷ passes (at-1000 over quiet-bus two-open) (write 0 1 0x20) (W 5 1_001 1 7 32 255 ∷ [])
+    ∷ passes (at-1000 over quiet-bus two-open) (rec 0 Precharge 1 0x20 255) []
+    ∷ passes (at-1000 over quiet-bus two-open) (rec 0 Terminate 1 0x20 255) []
+    ∷ passes (at-1000 over quiet-bus all-closed) (rec 0 Refresh 1 0x20 255) []
+    ∷ passes (at-1000 over quiet-bus all-closed) (rec 0 Refresh 1 4 255) []
+    -- 21: READ and WRITE only. A10 is HIGH in full-page mode
+    ∷ from (at-1000 (up-in 0x37) quiet-bus two-open) (read 0 1 (with-a10 0) ∷ []) 21 0 5 []
+    ∷ passes (at-1000 (up-in 0x37) quiet-bus two-open) (active 0 0 (with-a10 0)) []
+    ∷ passes (at-1000 (up-in 0x37) quiet-bus two-open) (all-banks 0) []
+    ∷ passes (at-1000 (up-in 0x37) quiet-bus two-open) (rec 0 Terminate 1 (with-a10 0) 255) []
+    ∷ passes (at-1000 (up-in 0x37) quiet-bus two-open) (rec 0 Nop 1 (with-a10 0) 255) []
+    ∷ passes (at-1000 (up-in 0x37) quiet-bus all-closed) (rec 0 Refresh 1 (with-a10 0) 255) []
+    -- an ACTIVE with A10 HIGH opens that row, and its bank is not under auto precharge
+    ∷ from (at-1000 (up-in 0x30) quiet-bus two-open) (active 0 0 (with-a10 5) ∷ write 2 0 3 ∷ []) 0 0 7 (W 6 1_004 0 1_029 3 255 ∷ [])
+    ∷ []
+
 pub odd-right :
     (found cuts ≡ expected cuts)
     × (found (in-places cut-reads) ≡ expected (in-places cut-reads))
@@ -543,5 +609,6 @@ pub odd-right :
     × (found (in-places by-bank) ≡ expected (in-places by-bank))
     × (found startups ≡ expected startups)
     × (found aheads ≡ expected aheads)
+    × (found unasked ≡ expected unasked)
 unfolding module-of length-of beat-column has-beat write-beat read-beat finished masks-on masks-after reads-from bus-after beat-on bursts-finished driven bus-clear allowed banks-found of-closing of-any of-active of-access of-precharged of-precharge of-idle events minima every-rules place-rules minimum-rules mode-rules bus-rules command-rules rules ask startup-after beat core-from core-after bank-after commanded mark-banks banks-after next run
-odd-right = (refl, refl, refl, refl, refl, refl, refl, refl)
+odd-right = (refl, refl, refl, refl, refl, refl, refl, refl, refl)

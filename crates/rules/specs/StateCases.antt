@@ -305,6 +305,13 @@ refusals =
     ∷ leaves grade-133 16384 (with-number 5) active-1 14 0 5
     ∷ leaves grade-133 16384 (begun no-bank) active-1 15 0 5
     ∷ leaves grade-133 16384 (begun (bank (Closed (time 8_000_000)) Never Never)) active-1 16 tRP 5
+    -- a taken one beside them: a NOP as the first record, on clock 0
+    ∷ given grade-133 16384 (with-number 5) nop
+    gives record {
+      answer = answer 0 0 5;
+      next = state 7500 0 0 6 (On (clock 0)) not-begun quiet-bus (four no-bank);
+      page = replicate 16384 7;
+    }
     ∷ []
 
 -- ── 25, part by part: what a state may hold, and what not ──
