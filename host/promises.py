@@ -10,7 +10,7 @@ FUNCTION = re.compile(r"^( *)(pub )?(?:extern \"C\" )?fn (\w+)")
 
 
 def functions(crate):
-    """The public functions of a library as name -> whether it has a `requires`."""
+    """The public functions of a library as name -> its contract: the lines between its head and its body."""
     src = os.path.join(ROOT, "crates", crate, "src")
     with open(os.path.join(src, "lib.rt")) as f:
         public = re.findall(r"^pub mod (\w+);", f.read(), re.M)
@@ -30,10 +30,18 @@ def functions(crate):
                     if m.group(2) and (holder or module == "lib" or module in public):
                         place = holder or ("" if module == "lib" else module)
                         name = place + "::" + m.group(3) if place else m.group(3)
-                        found[name] = False
-                elif name and line.strip().startswith("requires {"):
-                    found[name] = True
+                        found[name] = ""
+                elif line.strip() == "{":
+                    name = ""
+                elif name:
+                    found[name] += line
     return found
+
+
+def libraries():
+    """The crates that are no programs."""
+    crates = os.path.join(ROOT, "crates")
+    return [c for c in sorted(os.listdir(crates)) if os.path.exists(os.path.join(crates, c, "src", "lib.rt"))]
 
 
 def rows(text):
@@ -50,8 +58,7 @@ def main():
     with open(os.path.join(ROOT, "docs", "PROMISES.md")) as f:
         text = f.read()
     asks, promises = text.split("Within what it asks for", 1)
-    libraries = [c for c in os.listdir(os.path.join(ROOT, "crates")) if os.path.exists(os.path.join(ROOT, "crates", c, "src", "lib.rt"))]
-    code = {(c, n): r for c in libraries for n, r in functions(c).items()}
+    code = {(c, n): "requires {" in contract for c in libraries() for n, contract in functions(c).items()}
     wrong = []
     listed, excepted = rows(promises), rows(asks)
     wrong += ["no row: %s %s" % k for k in sorted(code) if k not in listed]
@@ -65,4 +72,5 @@ def main():
     sys.exit(1 if wrong else 0)
 
 
-main()
+if __name__ == "__main__":
+    main()
