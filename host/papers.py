@@ -37,7 +37,7 @@ TABLES = re.compile(r"(Cases|Printed|Facts|Traces|Lib)\.antt$")
 
 PATH = re.compile(r"(?<![\w/.-])(?:crates|host|examples|docs|include|\.ci)/[\w./+-]*[\w+]")
 CITED = re.compile(r"(?<![\w/.-])`?(%s)/((?:specs/|proofs/|src/)?)(\w+)(?:\.antt|\.rt)?`?(?![\w/-])" % "|".join(CRATES))
-NAMES = re.compile(r"(?:,| and| ..)? `([^`/]+)`(?!/)")
+NAMES = re.compile(r"(?:,| and| \.\.)? \(?`([^`/]+)`\)?(?!/)")
 WORD = re.compile(r"`([A-Za-z][\w-]*(?:::\w+)?)`")
 DEFINED = re.compile(r"^ {0,4}(?:abbrev |unfoldable )?(?:pub )?(?:(?:record|data) ([^\s:]+)|([^\s:(){}]+)(?= :(?:\s|$)))", re.M)
 WRITTEN = re.compile(r"^ *(?:pub )?(?:extern \"C\" )?(?:fn|struct|enum|const) (\w+)")
@@ -206,6 +206,9 @@ def main():
         if p.path == "docs/PROMISES.md":
             p.contracts()
         if p.path == "docs/DEFINITION.md":
+            order = {cited_file(*c.groups())[0] for row in re.findall(r"^\| \d+ \|([^|]*)", p.prose, re.M) for c in CITED.finditer(row)}
+            lines = sum(text_of(f).count("\n") for f in order)
+            p.counts([(r"(\d+) files of", len(order)), (r"([\d,]+) lines(?=, about half)", round(lines, -2))])
             for f in specs:
                 if not TABLES.search(f):
                     p.expect(0, f in p.cited, "does not lead to " + f)
