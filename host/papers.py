@@ -1,19 +1,22 @@
 #!/usr/bin/env python3
-"""Holds the papers to the repository: what they cite is there.
+"""Holds the papers to the repository: what they name is there.
 
-In every paper (PAPERS, below):
+In every paper (PAPERS):
 - a path (crates/.., host/.., examples/.., docs/.., include/..) exists;
-- CRATE/File, or CRATE/specs/File, is crates/CRATE/specs/File.antt; CRATE/proofs/File is crates/CRATE/proofs/File.antt; CRATE/file, or
-  CRATE/src/file.rt, is crates/CRATE/src/file.rt, or else the must-fail edit crates/CRATE/must-fail/file.edit. The `names` that follow
-  it, each after a comma, are defined in that file.
-In docs/MAP.md, docs/DEFINITION.md and docs/PROMISES.md besides:
-- every other `word` is a name of some crate, or one of WORDS;
-- a code block stands in a definition, line by line;
-- an example, a bench case, and a row of "What is believed" that is named by its number exists;
-- every definition file (all of specs/ but the tables of facts) is cited in docs/DEFINITION.md.
-Figures in words or digits that can be counted are right (COUNTS).
+- CRATE/File and CRATE/specs/File are crates/CRATE/specs/File.antt, and CRATE/proofs/File is crates/CRATE/proofs/File.antt. CRATE/file and
+  CRATE/src/file.rt are crates/CRATE/src/file.rt; if there is none, CRATE/file is the must-fail edit crates/CRATE/must-fail/file.edit. The
+  `names` that follow, each after a comma, are defined in that file;
+- "believed 3" is a row of the list at the end of docs/MAP.md;
+- what is counted in words or digits is counted right: exceptions, examples, wrong edits.
+In docs/MAP.md, docs/DEFINITION.md and docs/PROMISES.md (STRICT) besides:
+- every other `word` is defined in some crate, or is one of WORDS;
+- a code block reads as some definition does;
+- an example that is named, and a bench case by its number, exists.
+In docs/PROMISES.md the definition of a row is one that the function's contract names. docs/DEFINITION.md leads to every definition file, which
+is all of specs/ but the tables of facts, and says how many there are to read.
 
-It prints each thing that is not there with file and line, and exits 1."""
+It prints each thing that is not there, with file and line, and exits 1."""
+import functools
 import glob
 import os
 import re
@@ -43,11 +46,13 @@ DEFINED = re.compile(r"^ {0,4}(?:abbrev |unfoldable )?(?:pub )?(?:(?:record|data
 WRITTEN = re.compile(r"^ *(?:pub )?(?:extern \"C\" )?(?:fn|struct|enum|const) (\w+)")
 
 
+@functools.lru_cache(None)
 def text_of(path):
     with open(os.path.join(ROOT, path)) as f:
         return f.read()
 
 
+@functools.lru_cache(None)
 def names_in(path):
     """What a file of specs/ or proofs/ defines, or one of src/: functions also as Type::name and file::name."""
     if path.endswith(".antt"):
@@ -73,13 +78,26 @@ def bare(text):
 
 
 def cited_file(crate, kind, name):
-    """The file that a citation is for, as paths of which one should exist."""
+    """The files that a citation may be for, the first of them that exists, or else None, in front."""
+    here = "crates/%s/" % crate
     if kind == "proofs/":
-        return ["crates/%s/proofs/%s.antt" % (crate, name), "crates/%s/proofs/%s/Proof.antt" % (crate, name)]
-    if kind == "specs/" or (not kind and name[0].isupper()):
-        return ["crates/%s/specs/%s.antt" % (crate, name)]
-    edits = [] if kind else ["crates/%s/must-fail/%s.edit" % (crate, name)]
-    return ["crates/%s/src/%s.rt" % (crate, name)] + edits
+        files = [here + "proofs/%s.antt" % name, here + "proofs/%s/Proof.antt" % name]
+    elif kind == "specs/" or (not kind and name[0].isupper()):
+        files = [here + "specs/%s.antt" % name]
+    else:
+        files = [here + "src/%s.rt" % name] + ([] if kind else [here + "must-fail/%s.edit" % name])
+    return [next((f for f in files if os.path.exists(os.path.join(ROOT, f))), None)] + files
+
+
+def citations(text):
+    """Each citation in a text: its match, the file or None, the files that were looked for, the matches of the names that follow it."""
+    for m in CITED.finditer(text):
+        file, *files = cited_file(*m.groups())
+        names, follows = [], NAMES.match(text, m.end())
+        while follows:
+            names.append(follows)
+            follows = NAMES.match(text, follows.end())
+        yield m, file, files, names
 
 
 class Paper:
@@ -89,39 +107,29 @@ class Paper:
         # code blocks are looked at apart; blanks keep the places of all else
         self.prose = re.sub(r"^```.*?^```", lambda m: re.sub(r"[^\n]", " ", m.group()), self.text, flags=re.M | re.S)
 
-    def say(self, at, what):
-        self.wrong.append("%s:%d: %s" % (self.path, self.text.count("\n", 0, at) + 1, what))
-
     def expect(self, at, there, what):
         self.seen += 1
         if not there:
-            self.say(at, what)
+            self.wrong.append("%s:%d: %s" % (self.path, self.text.count("\n", 0, at) + 1, what))
 
     def paths(self):
         for m in PATH.finditer(self.prose):
-            path = m.group().rstrip(".")
-            if not re.search(r"[A-Z]{4}|target", path) or path.endswith(".md"):
+            if "CRATE" not in m.group():
+                path = m.group().rstrip(".")
                 self.expect(m.start(), os.path.exists(os.path.join(ROOT, path)), "no file " + path)
 
     def citations(self):
-        """Each citation, with the names that follow it; the places of those names."""
+        """Each citation, with the names that follow it. Answers the places that it has looked at."""
         taken = set()
-        for m in CITED.finditer(self.prose):
-            files = cited_file(*m.groups())
-            file = next((f for f in files if os.path.exists(os.path.join(ROOT, f))), None)
+        for m, file, files, names in citations(self.prose):
             self.expect(m.start(), file, "no file " + " nor ".join(files))
             self.cited.add(file)
             taken |= set(range(m.start(), m.end()))
-            at = m.end()
-            follows = NAMES.match(self.prose, at)
-            while follows:
-                name = follows.group(1)
-                if re.fullmatch(r"[^\s]+", name):
-                    if file and not file.endswith(".edit"):
-                        self.expect(follows.start(), name in names_in(file), "no `%s` in %s" % (name, file))
-                    taken |= set(range(follows.start(), follows.end()))
-                at = follows.end()
-                follows = NAMES.match(self.prose, at)
+            for n in names:
+                if " " not in n.group(1):
+                    taken |= set(range(n.start(), n.end()))
+                    if file:
+                        self.expect(n.start(), n.group(1) in names_in(file), "no `%s` in %s" % (n.group(1), file))
         return taken
 
     def words(self, taken, known):
@@ -141,14 +149,9 @@ class Paper:
             code = promises.functions(m.group(1))
             words = {f: set(re.split(r"[\s().,;⌜⌝]+", code.get(f, ""))) for f in re.findall(r"`([\w:]+)`", m.group(2))}
             cited, defined = set(), set()
-            for c in CITED.finditer(m.group(3)):
-                file = cited_file(*c.groups())[0]
-                if os.path.exists(os.path.join(ROOT, file)):
-                    defined |= names_in(file)
-                follows = NAMES.match(m.group(3), c.end())
-                while follows:
-                    cited.add(follows.group(1).split()[0])
-                    follows = NAMES.match(m.group(3), follows.end())
+            for _, file, _, names in citations(m.group(3)):
+                defined |= names_in(file) if file else set()
+                cited |= {n.group(1) for n in names if " " not in n.group(1)}
             for name in cited:
                 self.expect(m.start(), any(name in w for w in words.values()), "no contract of this row has `%s`" % name)
             for f, w in words.items():
@@ -165,7 +168,7 @@ class Paper:
             self.expect(m.start(), 0 < int(m.group(1)) <= int(m.group(2) or m.group(1)) <= cases, "%s: there are %d" % (m.group(), cases))
 
     def beliefs(self):
-        last = len(re.findall(r"^\| \d+ \|", text_of("docs/MAP.md"), re.M))
+        last = len(re.findall(r"^\| \d+ \|", text_of("docs/MAP.md").split("## What is believed")[1], re.M))
         for m in re.finditer(r"believed (\d+)", self.prose):
             self.expect(m.start(), 0 < int(m.group(1)) <= last, "%s: docs/MAP.md has %d" % (m.group(), last))
 
@@ -186,9 +189,10 @@ def main():
     for f in specs + proofs + code:
         known |= names_in(f)
     definitions = [bare(text_of(f)) for f in specs]
-    asking = [name for crate in promises.libraries() for name, contract in promises.functions(crate).items() if "requires {" in contract]
+    asking = [c for c in promises.libraries() for contract in promises.functions(c).values() if "requires {" in contract]
     counts = [
         (r"(\w+) (?:public|inner) functions(?= of| are| have)", len(asking)),
+        (r"(\w+) inner crates", len(set(asking))),
         (r"(\w+) exceptions", len(asking)),
         (r"(\w+) small traces", len(glob.glob(os.path.join(ROOT, "examples/*.trace")))),
         (r"(\w+) wrong edits of `host/mutations", len(re.findall(r"^why:", text_of("host/mutations.txt"), re.M))),
@@ -206,7 +210,7 @@ def main():
         if p.path == "docs/PROMISES.md":
             p.contracts()
         if p.path == "docs/DEFINITION.md":
-            order = {cited_file(*c.groups())[0] for row in re.findall(r"^\| \d+ \|([^|]*)", p.prose, re.M) for c in CITED.finditer(row)}
+            order = {file for row in re.findall(r"^\| \d+ \|([^|]*)", p.prose, re.M) for _, file, _, _ in citations(row) if file}
             lines = sum(text_of(f).count("\n") for f in order)
             p.counts([(r"(\d+) files of", len(order)), (r"([\d,]+) lines(?=, about half)", round(lines, -2))])
             for f in specs:
