@@ -609,5 +609,6 @@ pub odd-right :
     × (found (in-places by-bank) ≡ expected (in-places by-bank))
     × (found startups ≡ expected startups)
     × (found aheads ≡ expected aheads)
+    × (found unasked ≡ expected unasked)
 unfolding module-of length-of beat-column has-beat write-beat read-beat finished masks-on masks-after reads-from bus-after beat-on bursts-finished driven bus-clear allowed banks-found of-closing of-any of-active of-access of-precharged of-precharge of-idle events minima every-rules place-rules minimum-rules mode-rules bus-rules command-rules rules ask startup-after beat core-from core-after bank-after commanded mark-banks banks-after next run
-odd-right = (refl, refl, refl, refl, refl, refl, refl, refl)
+odd-right = (refl, refl, refl, refl, refl, refl, refl, refl, refl)
