@@ -10,6 +10,7 @@ use Rattle.units.specs.declared.Event.{Event}
 use Rattle.units.specs.declared.Event.the-variants.{Never, On}
 use Rattle.units.specs.Time.{clock, time}
 use Rattle.units.specs.Module.{module-of}
+use Rattle.speed.specs.Table.{grade-133}
 use Rattle.layout.specs.declared.Record.{Record}
 use Rattle.layout.specs.declared.Command.{Command}
 use Rattle.layout.specs.declared.Command.the-variants.{
@@ -48,6 +49,7 @@ use Rattle.page.specs.Store.{put-lanes, stored}
 use Rattle.rules.specs.declared.Refreshes.the-variants.{None, One, Two}
 use Rattle.rules.specs.declared.Register.the-variants.{Unloaded, Loaded}
 use Rattle.rules.specs.declared.StartUp.{StartUp}
+use Rattle.rules.specs.declared.Status.{Status}
 use Rattle.rules.specs.declared.Status.the-variants.{NotStarted, Open, Closed}
 use Rattle.rules.specs.declared.Bank.{Bank}
 use Rattle.rules.specs.declared.State.{State}
@@ -57,6 +59,7 @@ use Rattle.rules.specs.Parts.{no-bank, start, clock-of, word}
 use Rattle.rules.specs.StartUp.{allowed}
 use Rattle.rules.specs.Banks.{bank-at, row-of, banks-found}
 use Rattle.rules.specs.Minima.{of-closing, of-any, of-active, of-access, of-precharged, of-precharge, of-idle, events, minima}
+use Rattle.rules.specs.Closing.{closes-within}
 use Rattle.rules.specs.Rules.{every-rules, place-rules, minimum-rules, mode-rules, bus-rules, command-rules, rules, ask}
 use Rattle.rules.specs.After.{
   startup-after,
@@ -69,6 +72,7 @@ use Rattle.rules.specs.After.{
   banks-after,
   next,
   taking,
+  auto-closed,
 }
 use Rattle.rules.specs.OneRecord.{Stepped, judged}
 use Rattle.rules.specs.Cases.{up, with-133}
@@ -344,6 +348,26 @@ banks =
     ∷ bank-at (b0 ∷ b1 ∷ b2 ∷ b3 ∷ []) 4 gives no-bank
     ∷ []
 
+-- 15 comes first where the bank of a READ or WRITE is not open: then there is no row that auto precharge could close too late, and its
+-- status stays
+abbrev late : List (Row Bool)
+late =
+    closes-within grade-133 (time 7500) (time 900_000_000) NotStarted gives true
+    ∷ closes-within grade-133 (time 7500) (time 900_000_000) (Closed (time 0)) gives true
+    ∷ closes-within grade-133 (time 7500) (time 120_000_000) (Open 7 (clock 0)) gives true
+    ∷ closes-within grade-133 (time 7500) (time 120_000_001) (Open 7 (clock 0)) gives false
+    ∷ closes-within grade-133 (time 7500) (time 120_007_500) (Open 7 (clock 1)) gives true
+    ∷ []
+
+abbrev statuses : List (Row Status)
+statuses =
+    auto-closed grade-133 (time 7500) (time 50_000) NotStarted gives NotStarted
+    ∷ auto-closed grade-133 (time 7500) (time 50_000) (Closed (time 3)) gives Closed (time 3)
+    -- the later of ACTIVE + tRAS min and the burst's end
+    ∷ auto-closed grade-133 (time 7500) (time 50_000) (Open 7 (clock 0)) gives Closed (time 50_000)
+    ∷ auto-closed grade-133 (time 7500) (time 50_000) (Open 7 (clock 1)) gives Closed (time 51_500)
+    ∷ []
+
 -- what taking gives: the beat beside the next state
 abbrev takings : List (Row Taking)
 takings =
@@ -361,5 +385,7 @@ pub next-right :
     × (found states ≡ expected states)
     × (found banks ≡ expected banks)
     × (found takings ≡ expected takings)
+    × (found late ≡ expected late)
+    × (found statuses ≡ expected statuses)
 unfolding module-of length-of beat-column has-beat write-beat read-beat finished masks-on masks-after reads-from bus-after beat-on bursts-finished driven bus-clear allowed banks-found of-closing of-any of-active of-access of-precharged of-precharge of-idle events minima every-rules place-rules minimum-rules mode-rules bus-rules command-rules rules ask startup-after beat core-from core-after bank-after commanded mark-banks banks-after next put-lanes stored judged
-next-right = (refl, refl, refl, refl, refl)
+next-right = (refl, refl, refl, refl, refl, refl, refl)
