@@ -188,7 +188,7 @@ refuses s r number interval = judged with-133 s r page gives left number interva
 
 abbrev commands : List (Row Stepped)
 commands =
-    -- NOP and COMMAND INHIBIT leave number, clock and masks; two skipped clocks had masks HIGH
+    -- NOP and COMMAND INHIBIT: number, clock and masks move on, and nothing else
     takes full (rec Nop 3 1024 0xf0) Quiet
     (then over (bus (w950 Never) (reads Never Never) (masks 0xf0 1 2)) (b0 ∷ b1 ∷ b2 ∷ b3 ∷ [])) page
     ∷ takes full (rec Inhibit 3 1024 0xf0) Quiet

@@ -368,6 +368,13 @@ huge k = minima-of (λ j. eqb j k) 1_000_000
 abbrev with-bank : ℕ → Bank → State
 with-bank k b = at-1000 over quiet-bus (bank-in k b long-closed)
 
+-- with bank k like this the record is refused with this interval; it is taken
+abbrev held : SpeedTable → ℕ → Bank → Record → ℕ → Row Outcome
+held t k b r interval = runs-from t (with-bank k b) (r ∷ []) 16 interval 5 []
+
+abbrev free : SpeedTable → ℕ → Bank → Record → Row Outcome
+free t k b r = runs-from t (with-bank k b) (r ∷ []) 0 0 6 []
+
 abbrev with-startup : StartUp → List Bank → State
 with-startup u banks = at-1000 u quiet-bus banks
 
@@ -375,30 +382,26 @@ with-startup u banks = at-1000 u quiet-bus banks
 abbrev by-bank : ℕ → List (Row Outcome)
 by-bank k =
     -- tWR: a store before the open bank's ACTIVE, or on its clock, is none
-    runs-from (huge tWR) (with-bank k (bank (Open 7 (clock 999)) (On (clock 999)) (On (clock 998)))) (precharge 0 k ∷ []) 0 0 6 []
-    ∷ runs-from (huge tWR) (with-bank k (bank (Open 7 (clock 999)) (On (clock 999)) (On (clock 999)))) (precharge 0 k ∷ []) 0 0
-    6 []
-    ∷ runs-from (huge tWR) (with-bank k (bank (Open 7 (clock 999)) (On (clock 999)) (On (clock 1_000)))) (precharge 0 k ∷ []) 16
-    tWR 5 []
-    ∷ runs-from (huge tWR) (with-bank k (bank (Open 7 (clock 999)) (On (clock 999)) (On (clock 1_000)))) (all-banks 0 ∷ []) 16
-    tWR 5 []
-    ∷ runs-from (huge tWR) (with-bank k (bank (Open 7 (clock 999)) (On (clock 999)) (On (clock 999)))) (all-banks 0 ∷ []) 0 0 6 []
+    free (huge tWR) k (bank (Open 7 (clock 999)) (On (clock 999)) (On (clock 998))) (precharge 0 k)
+    ∷ free (huge tWR) k (bank (Open 7 (clock 999)) (On (clock 999)) (On (clock 999))) (precharge 0 k)
+    ∷ held (huge tWR) k (bank (Open 7 (clock 999)) (On (clock 999)) (On (clock 1_000))) (precharge 0 k) tWR
+    ∷ held (huge tWR) k (bank (Open 7 (clock 999)) (On (clock 999)) (On (clock 1_000))) (all-banks 0) tWR
+    ∷ free (huge tWR) k (bank (Open 7 (clock 999)) (On (clock 999)) (On (clock 999))) (all-banks 0)
     -- an open bank whose `active` is Never: tRAS, tRCD, 13 and tWR count from the status's ACTIVE
-    ∷ runs-from (huge tRAS) (with-bank k (bank (Open 7 (clock 999)) Never Never)) (precharge 0 k ∷ []) 16 tRAS 5 []
-    ∷ runs-from (huge tRCD) (with-bank k (bank (Open 7 (clock 999)) Never Never)) (read 0 k 0 ∷ []) 16 tRCD 5 []
-    ∷ runs-from (huge tRCD) (with-bank k (bank (Open 7 (clock 999)) Never Never)) (write 0 k 0 ∷ []) 16 tRCD 5 []
-    ∷ runs-from (huge tWR) (with-bank k (bank (Open 7 (clock 999)) Never (On (clock 1_000)))) (precharge 0 k ∷ []) 16 tWR 5 []
-    ∷ runs-from (huge tWR) (with-bank k (bank (Open 7 (clock 999)) Never (On (clock 999)))) (precharge 0 k ∷ []) 0 0 6 []
+    ∷ held (huge tRAS) k (bank (Open 7 (clock 999)) Never Never) (precharge 0 k) tRAS
+    ∷ held (huge tRCD) k (bank (Open 7 (clock 999)) Never Never) (read 0 k 0) tRCD
+    ∷ held (huge tRCD) k (bank (Open 7 (clock 999)) Never Never) (write 0 k 0) tRCD
+    ∷ held (huge tWR) k (bank (Open 7 (clock 999)) Never (On (clock 1_000))) (precharge 0 k) tWR
+    ∷ free (huge tWR) k (bank (Open 7 (clock 999)) Never (On (clock 999))) (precharge 0 k)
     ∷ runs-from (table 0 0 0 7_499 0 0 0 0 0 0 0 7_812_500 0) (with-bank k (bank (Open 7 (clock 1_000)) Never Never))
     (nop 0 255 ∷ []) 13 0 5 []
-    ∷ runs-from (table 0 0 0 7_500 0 0 0 0 0 0 0 7_812_500 0) (with-bank k (bank (Open 7 (clock 1_000)) Never Never))
-    (nop 0 255 ∷ []) 0 0 6 []
+    ∷ free (table 0 0 0 7_500 0 0 0 0 0 0 0 7_812_500 0) k (bank (Open 7 (clock 1_000)) Never Never) (nop 0 255)
     -- not from its `active`, if that is another
     ∷ runs-from (table 0 0 22_500 120_000_000 0 22_500 0 0 0 0 0 7_812_500 0)
     (with-bank k (bank (Open 7 (clock 998)) (On (clock 1_000)) Never)) (read 0 k 0 ∷ precharge 0 k ∷ []) 0 0 7 []
     -- tRC and tRRD count from its `active`, and find no event where that is Never
-    ∷ runs-from (huge tRC) (with-bank k (bank (Closed (time 0)) Never Never)) (active 0 k 7 ∷ []) 0 0 6 []
-    ∷ runs-from (huge tRC) (with-bank k (bank (Closed (time 0)) (On (clock 1_000)) Never)) (active 0 k 7 ∷ []) 16 tRC 5 []
+    ∷ free (huge tRC) k (bank (Closed (time 0)) Never Never) (active 0 k 7)
+    ∷ held (huge tRC) k (bank (Closed (time 0)) (On (clock 1_000)) Never) (active 0 k 7) tRC
     -- a bank not started is neither open nor closed
     ∷ from (with-bank k no-bank) (active 0 k 7 ∷ []) 15 0 5 []
     ∷ from (with-bank k no-bank) (read 0 k 0 ∷ []) 15 0 5 []
@@ -410,32 +413,30 @@ by-bank k =
     ∷ from (with-bank k no-bank) (precharge 0 k ∷ active 2 k 7 ∷ []) 0 0 7 []
     ∷ from (with-bank k no-bank) (all-banks 0 ∷ active 2 k 7 ∷ []) 0 0 7 []
     -- with tRAS, tRC, tRCD or tWR there is nothing to count from, and 13 does not look at it
-    ∷ runs-from (table 0 0 0 0 1_000_000 0 0 0 0 1_000_000 0 7_812_500 0)
-    (with-bank k (bank NotStarted Never (On (clock 1_000)))) (precharge 0 k ∷ []) 0 0 6 []
+    ∷ free (table 0 0 0 0 1_000_000 0 0 0 0 1_000_000 0 7_812_500 0) k (bank NotStarted Never (On (clock 1_000))) (precharge 0 k)
     -- "An event still ahead .. its minimum is not met before it, not even a minimum of 0": its ACTIVE, its store, its closing
-    ∷ runs-from none (with-bank k (bank (Open 7 (clock 1_002)) Never Never)) (read 0 k 0 ∷ []) 16 tRCD 5 []
-    ∷ runs-from none (with-bank k (bank (Open 7 (clock 1_001)) Never Never)) (read 0 k 0 ∷ []) 0 0 6 []
-    ∷ runs-from none (with-bank k (bank (Open 7 (clock 1_002)) Never Never)) (precharge 0 k ∷ []) 16 tRAS 5 []
-    ∷ runs-from none (with-bank k (bank (Open 7 (clock 1_000)) Never (On (clock 1_002)))) (precharge 0 k ∷ []) 16 tWR 5 []
-    ∷ runs-from none (with-bank k (bank (Closed (time 0)) (On (clock 1_002)) Never)) (active 0 k 7 ∷ []) 16 tRC 5 []
-    ∷ runs-from none (with-bank k (bank (Closed (time 7_507_501)) Never Never)) (active 0 k 7 ∷ []) 16 tRP 5 []
-    ∷ runs-from none (with-bank k (bank (Closed (time 7_507_500)) Never Never)) (active 0 k 7 ∷ []) 0 0 6 []
-    ∷ runs-from none (with-bank k (bank (Closed (time 7_507_501)) Never Never)) (precharge 0 k ∷ []) 16 tRP 5 []
-    ∷ runs-from none (with-bank k (bank (Closed (time 7_507_501)) Never Never)) (all-banks 0 ∷ []) 16 tRP 5 []
-    ∷ runs-from none (with-bank k (bank (Closed (time 7_507_501)) Never Never)) (refresh 0 ∷ []) 16 tRP 5 []
-    ∷ runs-from none (with-bank k (bank (Closed (time 7_507_501)) Never Never)) (load 0 0x30 ∷ []) 16 tRP 5 []
+    ∷ held none k (bank (Open 7 (clock 1_002)) Never Never) (read 0 k 0) tRCD
+    ∷ free none k (bank (Open 7 (clock 1_001)) Never Never) (read 0 k 0)
+    ∷ held none k (bank (Open 7 (clock 1_002)) Never Never) (precharge 0 k) tRAS
+    ∷ held none k (bank (Open 7 (clock 1_000)) Never (On (clock 1_002))) (precharge 0 k) tWR
+    ∷ held none k (bank (Closed (time 0)) (On (clock 1_002)) Never) (active 0 k 7) tRC
+    ∷ held none k (bank (Closed (time 7_507_501)) Never Never) (active 0 k 7) tRP
+    ∷ free none k (bank (Closed (time 7_507_500)) Never Never) (active 0 k 7)
+    ∷ held none k (bank (Closed (time 7_507_501)) Never Never) (precharge 0 k) tRP
+    ∷ held none k (bank (Closed (time 7_507_501)) Never Never) (all-banks 0) tRP
+    ∷ held none k (bank (Closed (time 7_507_501)) Never Never) (refresh 0) tRP
+    ∷ held none k (bank (Closed (time 7_507_501)) Never Never) (load 0 0x30) tRP
     -- "and no maximum is passed": 13, of an ACTIVE ahead
-    ∷ runs-from (table 0 0 0 0 0 0 0 0 0 0 0 7_812_500 0) (with-bank k (bank (Open 7 (clock 1_002)) Never Never))
-    (nop 0 255 ∷ []) 0 0 6 []
+    ∷ free (table 0 0 0 0 0 0 0 0 0 0 0 7_812_500 0) k (bank (Open 7 (clock 1_002)) Never Never) (nop 0 255)
     ∷ []
 
 -- ACTIVE of bank b after one of bank a, whose `active` is like this
 abbrev other-active : ℕ → ℕ → List (Row Outcome)
 other-active a b =
-    runs-from (huge tRRD) (with-bank a (bank (Open 7 (clock 1_000)) Never Never)) (active 0 b 7 ∷ []) 0 0 6 []
-    ∷ runs-from (huge tRRD) (with-bank a (bank (Open 7 (clock 900)) (On (clock 1_000)) Never)) (active 0 b 7 ∷ []) 16 tRRD 5 []
-    ∷ runs-from (huge tRRD) (with-bank a (bank NotStarted (On (clock 1_000)) Never)) (active 0 b 7 ∷ []) 16 tRRD 5 []
-    ∷ runs-from none (with-bank a (bank (Closed (time 0)) (On (clock 1_002)) Never)) (active 0 b 7 ∷ []) 16 tRRD 5 []
+    free (huge tRRD) a (bank (Open 7 (clock 1_000)) Never Never) (active 0 b 7)
+    ∷ held (huge tRRD) a (bank (Open 7 (clock 900)) (On (clock 1_000)) Never) (active 0 b 7) tRRD
+    ∷ held (huge tRRD) a (bank NotStarted (On (clock 1_000)) Never) (active 0 b 7) tRRD
+    ∷ held none a (bank (Closed (time 0)) (On (clock 1_002)) Never) (active 0 b 7) tRRD
     ∷ []
 
 -- a refresh, LOAD MODE or PRECHARGE ALL ahead meets no minimum of any executable command
@@ -597,7 +598,8 @@ unasked =
     ∷ passes (at-1000 (up-in 0x37) quiet-bus two-open) (rec 0 Nop 1 (with-a10 0) 255) []
     ∷ passes (at-1000 (up-in 0x37) quiet-bus all-closed) (rec 0 Refresh 1 (with-a10 0) 255) []
     -- an ACTIVE with A10 HIGH opens that row, and its bank is not under auto precharge
-    ∷ from (at-1000 (up-in 0x30) quiet-bus two-open) (active 0 0 (with-a10 5) ∷ write 2 0 3 ∷ []) 0 0 7 (W 6 1_004 0 1_029 3 255 ∷ [])
+    ∷ from (at-1000 (up-in 0x30) quiet-bus two-open) (active 0 0 (with-a10 5) ∷ write 2 0 3 ∷ []) 0 0 7
+    (W 6 1_004 0 1_029 3 255 ∷ [])
     ∷ []
 
 pub odd-right :
