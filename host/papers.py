@@ -26,6 +26,7 @@ import promises
 
 ROOT = promises.ROOT
 STRICT = ["docs/MAP.md", "docs/DEFINITION.md", "docs/PROMISES.md"]
+# docs/LANDINGS.md is not among them: it tells what was, and may name what is gone
 PAPERS = STRICT + [
     "docs/DECISIONS.md", "docs/REFUSALS.md", "docs/TESTING.md", "docs/PERFORMANCE.md", "docs/ROADMAP.md",
     "README.md", "host/README.md", "examples/README.md",
