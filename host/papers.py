@@ -43,7 +43,7 @@ PATH = re.compile(r"(?<![\w/.-])(?:crates|host|examples|docs|include|\.ci)/[\w./
 CITED = re.compile(r"(?<![\w/.-])`?(%s)/((?:specs/|proofs/|src/)?)(\w+)(?:\.antt|\.rt)?`?(?![\w/-])" % "|".join(CRATES))
 NAMES = re.compile(r"(?:,| and| \.\.)? \(?`([^`/]+)`\)?(?!/)")
 WORD = re.compile(r"`([A-Za-z][\w-]*(?:::\w+)?)`")
-DEFINED = re.compile(r"^ {0,4}(?:abbrev |unfoldable )?(?:pub )?(?:(?:record|data) ([^\s:]+)|([^\s:(){}]+)(?= :(?:\s|$)))", re.M)
+DEFINED = re.compile(r"^ {0,4}(?:abbrev |unfoldable )?(?:pub )?(?:(?:record|data) ([^\s:(){}]+)|([^\s:(){}]+)(?= :(?:\s|$)))", re.M)
 WRITTEN = re.compile(r"^ *(?:pub )?(?:extern \"C\" )?(?:fn|struct|enum|const) (\w+)")
 
 
