@@ -7,6 +7,8 @@
         --again                              also those that have a result
     python3 host/mutate.py --list            the edits with their results; each must fit the files as they are
     python3 host/mutate.py --report          counts, and each edit that was not refused for a fact
+    python3 host/mutate.py --facts ..        the same of the edits of definitions, with no code there: host/facts.py says how
+    python3 host/mutate.py --facts --each    one edit of each definition file, the first in the list; fails where one is not held
 
 An edit is made in a copy of the repository under target/mutate, with what is proved already. A library is then checked by `rt dev`, a
 program by `rt check`, which also runs it; `upto NAME` in an edit has `rt check NAME` prove the edited crate and all up to NAME. An edit is
@@ -15,8 +17,8 @@ program by `rt check`, which also runs it; `upto NAME` in an edit has `rt check 
     misfit    refused, but only because a proof file no longer fits the code's shape, or the text makes no sense: it shows nothing
     SURVIVED  the check passes: a wrong program or definition that nothing shuts out, or an edit that changes nothing
 
-Results are kept in target/mutate/results.json under the edit and the crate's files, so a run goes on where it was broken off, and a
-changed crate is tried again.
+Results are kept in target/mutate/results.json under the edit and the crate's files (results-facts.json: the edit and all definitions and
+tables), so a run goes on where it was broken off, and what was changed is tried again.
 """
 import argparse
 import concurrent.futures
@@ -31,12 +33,16 @@ import sys
 import threading
 import time
 
+import facts
+
 HERE = os.path.dirname(os.path.abspath(__file__))
 ROOT = os.path.dirname(HERE)
 HOME = os.path.join(ROOT, "target", "mutate")
 RESULTS = os.path.join(HOME, "results.json")
 SECONDS = 1800
-MISFIT = re.compile(r"has no `Need-|error\[|does not parse|is not in scope|cannot be named|no such name|unbound")
+MISFIT = re.compile(
+    r"has no `Need-|error\[|does not parse|is not in scope|cannot be named|no such name|unbound|no occurrence|could not be computed"
+)
 ERROR = re.compile(r"crates/(\S+?:\d+):\d+: (?:error|note: it is not proved)")
 RUN = re.compile(r"^rt: (\S+: what the program wrote .*)$", re.M)
 
@@ -44,16 +50,16 @@ RUN = re.compile(r"^rt: (\S+: what the program wrote .*)$", re.M)
 class Edit:
     def __init__(self, number, block):
         lines = block.strip("\n").split("\n")
-        self.number, self.file, self.nth, self.upto = number, lines[0], 0, ""
+        self.number, self.file, self.nth, self.upto, self.law = number, lines[0], 0, "", ""
         self.once = True
         for line in lines[1:]:
             word, _, rest = line.partition(" ")
             if word in ("old:", "new:", "why:"):
-                setattr(self, word[:-1], rest)
+                setattr(self, word[:-1], rest.replace("\\n", "\n"))
             elif word == "nth":
                 self.nth, self.once = int(rest) - 1, False
-            elif word == "upto":
-                self.upto = rest
+            elif word in ("upto", "law"):
+                setattr(self, word, rest)
             else:
                 sys.exit("host/mutations.txt: what is this? " + line)
         self.crate = self.file.split("/")[0]
@@ -67,9 +73,12 @@ class Edit:
 
 
 def edits():
+    """All edits, and how many of them come before those that are for the facts run only."""
     with open(os.path.join(HERE, "mutations.txt")) as f:
-        blocks = [b for b in f.read().split("\n\n") if b.strip() and not b.lstrip().startswith("#")]
-    return [Edit(i + 1, block) for i, block in enumerate(blocks)]
+        both, only_facts = f.read().split("## facts run only")
+    blocks = [b for b in (both + only_facts).split("\n\n") if b.strip() and not b.lstrip().startswith("#")]
+    every = [Edit(i + 1, block) for i, block in enumerate(blocks)]
+    return every, sum(1 for b in both.split("\n\n") if b.strip() and not b.lstrip().startswith("#"))
 
 
 def path_of(e, root=ROOT):
@@ -89,19 +98,26 @@ def key_of(e):
 
 
 class Results:
-    def __init__(self):
-        self.lock = threading.Lock()
-        self.all = {}
-        if os.path.exists(RESULTS):
-            with open(RESULTS) as f:
+    """What each edit's run gave; `how` is this module or `facts`."""
+
+    def __init__(self, how):
+        self.lock, self.how, self.all = threading.Lock(), how, {}
+        if os.path.exists(how.RESULTS):
+            with open(how.RESULTS) as f:
                 self.all = json.load(f)
+
+    def get(self, e):
+        return self.all.get(self.how.key_of(e))
+
+    def verdict(self, e):
+        return (self.get(e) or {"verdict": "not tried"})["verdict"]
 
     def put(self, e, result):
         with self.lock:
-            self.all[key_of(e)] = result
-            with open(RESULTS + ".new", "w") as f:
+            self.all[self.how.key_of(e)] = result
+            with open(self.how.RESULTS + ".new", "w") as f:
                 json.dump(self.all, f, indent=1)
-            os.replace(RESULTS + ".new", RESULTS)
+            os.replace(self.how.RESULTS + ".new", self.how.RESULTS)
 
 
 def fresh(place):
@@ -114,6 +130,10 @@ def fresh(place):
         if os.path.exists(os.path.join(ROOT, "target", part)):
             shutil.copytree(os.path.join(ROOT, "target", part), os.path.join(place, "target", part))
     return place
+
+
+def copies(todo, jobs):
+    return [fresh(os.path.join(HOME, "copy-%d" % (i + 1))) for i in range(jobs)]
 
 
 def program(crate):
@@ -138,7 +158,7 @@ def judged(status, text):
         if sought:
             return "killed", sought.group(1) + ": no proof is found"
         return ("killed", ran.group(1)) if ran else ("misfit", "no error was found in what the check said")
-    line = text[first.start() : text.find("\n", first.start())]
+    line = re.match(r".*(\n  .*)*", text[first.start() :]).group(0)
     where = first.group(1) + " " + " ".join(re.findall(r"`[^` ]+`", line)[:1])
     tables = sorted(set(re.findall(r"specs/\S+: error: (`[^`]+`): expected type `T ", text)))
     return "misfit" if MISFIT.search(line) else "killed", where + (", tables " + " ".join(tables) if tables else "")
@@ -171,13 +191,13 @@ def shown(e, r):
 
 def run(todo, jobs, results):
     places = queue.Queue()
-    for i in range(jobs):
-        places.put(fresh(os.path.join(HOME, "copy-%d" % (i + 1))))
+    for place in results.how.copies(todo, jobs):
+        places.put(place)
 
     def one(e):
         place = places.get()
         try:
-            r = tried(e, place)
+            r = results.how.tried(e, place)
         finally:
             places.put(place)
         results.put(e, r)
@@ -190,7 +210,7 @@ def run(todo, jobs, results):
 def counted(all_edits, results):
     counts = {}
     for e in all_edits:
-        verdict = results.all.get(key_of(e), {"verdict": "not tried"})["verdict"]
+        verdict = results.verdict(e)
         counts[verdict] = counts.get(verdict, 0) + 1
     return "%d edits: " % len(all_edits) + ", ".join("%d %s" % (n, verdict) for verdict, n in sorted(counts.items()))
 
@@ -211,31 +231,49 @@ def asked():
     p.add_argument("--from", dest="first", type=int, default=1, metavar="N")
     p.add_argument("--to", dest="last", type=int, default=1 << 30, metavar="N")
     p.add_argument("--jobs", type=int, choices=(1, 2), default=1)
-    for word in ("again", "list", "report"):
+    for word in ("again", "list", "report", "facts", "each"):
         p.add_argument("--" + word, action="store_true")
     return p.parse_args()
+
+
+def each(part, a, results):
+    """One edit of each definition file: all are refused, or 1."""
+    first, without = facts.one_of_each(part)
+    run([e for e in first if a.again or not results.get(e)], a.jobs, results)
+    wrong = [e for e in first if results.verdict(e) != "held"]
+    for e in wrong:
+        print("not held: %d %s: %s" % (e.number, e.file, e.why))
+    for d in without:
+        print("no edit of %s" % d)
+    if wrong or without:
+        return 1
+    print("%d definition files: an edit of each is refused by a fact" % len(first))
+    return 0
 
 
 def main():
     a = asked()
     os.makedirs(HOME, exist_ok=True)
-    every, results = edits(), Results()
+    every, both = edits()
     wrong = unfit(every)
     for e in wrong:
         print("does not fit: %d %s: %s" % (e.number, e.file, e.old))
     if wrong:
         return 2
+    results = Results(facts if a.facts else sys.modules[__name__])
     part = [e for e in every if a.first <= e.number <= a.last and a.only in (None, e.crate)]
-    has = {e.number: results.all.get(key_of(e)) for e in part}
+    part = [e for e in part if (facts.definition_of(e) if a.facts else e.number <= both)]
+    if a.facts and a.each:
+        return each(part, a, results)
     if a.list or a.report:
         for e in part:
-            r = has[e.number] or {"verdict": "-", "seconds": 0, "where": ""}
+            r = results.get(e) or {"verdict": "-", "seconds": 0, "where": ""}
             if a.list or r["verdict"] in ("misfit", "SURVIVED"):
                 print(shown(e, r))
     else:
-        run([e for e in part if a.again or not has[e.number]], a.jobs, results)
+        run([e for e in part if a.again or not results.get(e)], a.jobs, results)
     print(counted(part, results))
-    return 1 if any((results.all.get(key_of(e)) or {}).get("verdict") == "SURVIVED" for e in part) else 0
+    return 1 if any(results.verdict(e) == "SURVIVED" for e in part) else 0
 
 
 if __name__ == "__main__":

@@ -1,0 +1,236 @@
+"""The facts run of host/mutate.py: is an edit of a definition refused by a fact alone?
+
+Someone who changes the definition and the code together meets no failing code proof. What is left to stop him are facts: the tables of
+cases that the checker computes (`*Cases`, `Printed`), and the laws. So this run works on copies of the crates that have no code and no
+code proofs. Of src/ a copy has the structs and enums that the definitions speak of. Of specs/ it has every file.
+
+An edit is made in a copy. The edited crate is checked first, then each crate above it, up to the first refusal. An edit is
+
+    held      a table's theorem fails, which is named; for an edit with a line `law`, that law fails
+    misfit    refused for anything else: the edit does not typecheck, or the checker could not compute. It shows nothing
+    SURVIVED  every fact holds still
+"""
+import hashlib
+import os
+import re
+import shutil
+import subprocess
+import sys
+import threading
+import time
+
+ROOT = os.path.dirname(os.path.dirname(os.path.abspath(__file__)))
+HOME = os.path.join(ROOT, "target", "mutate")
+RESULTS = os.path.join(HOME, "results-facts.json")
+SECONDS = 600
+# Their definitions are for the code behind the public calls. Each is proved equal to the rules by a law or a contract.
+BRIDGES = ("parts", "asking", "taking", "packed", "device", "explain", "bench")
+# States a fact for a theorem, and that theorem needs the code's own laws.
+OUTSIDE = ("hawsehole/Walk",)
+TABLE = re.compile(r"(Cases|Printed)$")
+ERROR = re.compile(r"crates/(\w+)/(\w+)/(\S+?)\.antt:\d+:\d+: error: (.*(?:\n +.*)*)")
+SHOWS_NOTHING = re.compile(r"not in scope|does not parse|no occurrence|could not be computed|cannot be named|unbound")
+TYPE = re.compile(r"^pub (?:struct|enum) (?:[^\n{]*;|[^\n{]*\{\n(?:.*\n)*?\})\n", re.M)
+USE = re.compile(r"^use (\w+)::(\w+);\n", re.M)
+LAW = re.compile(r"^use Rattle·(\w+)(?:·proofs)?\.proofs\.(\w+)", re.M)
+
+
+def read(*parts):
+    with open(os.path.join(ROOT, "crates", *parts)) as f:
+        return f.read()
+
+
+def write(text, *parts):
+    path = os.path.join(*parts)
+    os.makedirs(os.path.dirname(path), exist_ok=True)
+    with open(path, "w") as f:
+        f.write(text)
+
+
+def files(crate):
+    """The files of a crate's specs/, without `.antt`."""
+    return sorted(name[:-5] for name in os.listdir(os.path.join(ROOT, "crates", crate, "specs")) if name.endswith(".antt"))
+
+
+def crates():
+    """The crates of the run, the lowest first."""
+    with open(os.path.join(ROOT, "crates.txt")) as f:
+        names = [line.split(":")[0] for line in f if ":" in line and not line.startswith("#")]
+    return [c for c in names if c not in BRIDGES]
+
+
+def definitions():
+    """The definition files, as CRATE/File."""
+    every = [c + "/" + name for c in crates() for name in files(c) if name != "Lib" and not TABLE.search(name)]
+    return [d for d in every if d not in OUTSIDE]
+
+
+def definition_of(e):
+    """The definition file that an edit is in, or nothing."""
+    path = e.file.split("/")
+    return "/".join((path[0], path[-1][:-5])) if path[1] == "specs" and path[0] not in BRIDGES and not TABLE.search(path[-1][:-5]) else ""
+
+
+def types(crate):
+    """The structs and enums of a crate, and the `use` lines that they need."""
+    if not os.path.exists(os.path.join(ROOT, "crates", crate, "src", "lib.rt")):
+        return ""
+    code = read(crate, "src", "lib.rt")
+    declared = "".join(TYPE.findall(code))
+    return "".join("use %s::%s;\n" % used for used in USE.findall(code) if re.search(r"\b%s\b" % used[1], declared)) + declared
+
+
+def stands_on(crate, texts):
+    """The crates that these texts of a crate use."""
+    named = set(re.findall(r"^use (?:Rattle·)?(\w+)", "".join(texts), re.M))
+    return [c for c in crates() if c in named and c != crate]
+
+
+def laws_for(every):
+    """The law files that the edits name and all that those use, as CRATE/File."""
+    todo, found = [e.law.split()[0] for e in every if e.law], []
+    while todo:
+        law = todo.pop()
+        if law not in found:
+            found.append(law)
+            todo += ["/".join(used) for used in LAW.findall(read(law.split("/")[0], "proofs", law.split("/")[1] + ".antt"))]
+    return found
+
+
+def stripped(place, laws):
+    """Writes the crates to the copy, without code. What was proved there stays, and is used where it fits still."""
+    shutil.rmtree(os.path.join(place, "crates"), ignore_errors=True)
+    order = ""
+    for c in crates():
+        texts = [types(c)] + [read(c, "specs", name + ".antt") for name in files(c)]
+        shutil.copytree(os.path.join(ROOT, "crates", c, "specs"), os.path.join(place, "crates", c, "specs"))
+        write(texts[0], place, "crates", c, "src", "lib.rt")
+        own = [law.split("/")[1] for law in laws if law.split("/")[0] == c]
+        if own:
+            write("".join("pub mod %s\n" % name for name in sorted(own)), place, "crates", c, "proofs", "Lib.antt")
+        for name in own:
+            texts.append(read(c, "proofs", name + ".antt"))
+            write(texts[-1], place, "crates", c, "proofs", name + ".antt")
+        order += "%s: %s\n" % (c, " ".join(stands_on(c, texts)))
+    write(order, place, "crates.txt")
+
+
+def above(place, crate):
+    """The crate, then those that stand on it, in order."""
+    found = [crate]
+    with open(os.path.join(place, "crates.txt")) as f:
+        for line in f:
+            name, _, under = line.partition(":")
+            if name != crate and set(under.split()) & set(found):
+                found.append(name)
+    return found
+
+
+def checked(place, crate):
+    environment = dict(os.environ, RT_JOBS="1", RT_CUT="400")
+    done = subprocess.run(["rt", "check"] + crate, cwd=place, env=environment, stdout=subprocess.PIPE, stderr=subprocess.STDOUT, timeout=SECONDS)
+    return done.returncode, done.stdout.decode(errors="replace")
+
+
+def proved(name, laws):
+    """The copy with no edit, proved."""
+    place = os.path.join(HOME, name)
+    stripped(place, laws)
+    status, text = checked(place, [])
+    if status:
+        sys.exit("the definitions as they are do not hold (%s):\n%s" % (place, text))
+    return place
+
+
+class Copies:
+    """Two copies for one job: one without laws, and one with those that edits name, made when it is asked for."""
+
+    def __init__(self, place, laws, lock):
+        self.place, self.laws, self.lock, self.made = place, laws, lock, {}
+
+    def get(self, name):
+        if name not in self.made:
+            place = self.place + "-" + name
+            shutil.rmtree(place, ignore_errors=True)
+            with self.lock:
+                shutil.copytree(proved(name, self.laws if name == "laws" else []), place)
+            self.made[name] = place
+        return self.made[name]
+
+    def put_back(self, name, crates_checked):
+        """What was proved of the crates before an edit."""
+        for part in ("rlib/%s.rlib", "stamp/%s"):
+            for c in crates_checked:
+                shutil.copy2(os.path.join(HOME, name, "target", part % c), os.path.join(self.made[name], "target", part % c))
+
+
+def copies(todo, jobs):
+    lock, laws = threading.Lock(), laws_for(todo)
+    return [Copies(os.path.join(HOME, "facts-%d" % (i + 1)), laws, lock) for i in range(jobs)]
+
+
+def judged(e, text):
+    """held or misfit, and what refused."""
+    errors = ERROR.findall(text)
+    if not errors:
+        return "misfit", "no error was found in what the check said"
+    told = []
+    for crate, folder, name, message in errors:
+        called = (re.findall(r"`([^` ]+)`", message) or ["?"])[0]
+        said = "%s/%s %s" % (crate, name, called)
+        fact = said == e.law if e.law else folder == "specs" and TABLE.search(name)
+        if not fact or SHOWS_NOTHING.search(message):
+            return "misfit", said + ": " + message.split("\n")[0][:200]
+        told.append(said)
+    return "held", ", ".join(dict.fromkeys(told))
+
+
+def tried(e, copies):
+    """Makes the edit in the copy, checks crate after crate, and puts everything back."""
+    start, name, done = time.time(), "laws" if e.law else "facts", []
+    place = copies.get(name)
+    path = os.path.join(place, "crates", e.file)
+    with open(path) as f:
+        text = f.read()
+    with open(path, "w") as f:
+        f.write(e.applied(text))
+    verdict, where = "SURVIVED", ""
+    try:
+        for c in above(place, e.crate):
+            done.append(c)
+            status, said = checked(place, [c])
+            if status:
+                verdict, where = judged(e, said)
+                break
+    except subprocess.TimeoutExpired:
+        verdict, where = "misfit", "no verdict in %d seconds" % SECONDS
+    with open(path, "w") as f:
+        f.write(text)
+    copies.put_back(name, done)
+    return {"verdict": verdict, "where": where, "seconds": round(time.time() - start, 1), "edit": "%s: %s" % (e.file, e.why)}
+
+
+SUMS = {}
+
+
+def sum_of(laws):
+    """All that the verdicts hang on but the edit."""
+    name = " ".join(laws)
+    if name not in SUMS:
+        texts = [types(c) + "".join(name + read(c, "specs", name + ".antt") for name in files(c)) for c in crates()]
+        texts += [read(law.split("/")[0], "proofs", law.split("/")[1] + ".antt") for law in sorted(laws)]
+        SUMS[name] = hashlib.sha256("\0".join(texts).encode()).hexdigest()
+    return SUMS[name]
+
+
+def key_of(e):
+    law = laws_for([e])
+    return hashlib.sha256(repr((e.file, e.old, e.new, e.nth, e.law, sum_of(law))).encode()).hexdigest()[:32]
+
+
+def one_of_each(every):
+    """The first edit of each definition file; the files that have none."""
+    first = {}
+    for e in every:
+        first.setdefault(definition_of(e), e)
+    return [first[d] for d in definitions() if d in first], [d for d in definitions() if d not in first]
