@@ -159,9 +159,12 @@ class Copies:
 
     def put_back(self, name, crates_checked):
         """What was proved of the crates before an edit."""
-        for part in ("rlib/%s.rlib", "stamp/%s"):
-            for c in crates_checked:
-                shutil.copy2(os.path.join(HOME, name, "target", part % c), os.path.join(self.made[name], "target", part % c))
+        for c in crates_checked:
+            there, here = (os.path.join(place, "target") for place in (os.path.join(HOME, name), self.made[name]))
+            rlib, stamp = os.path.join("rlib", c + ".rlib"), os.path.join("stamp", c)
+            shutil.rmtree(os.path.join(here, rlib), ignore_errors=True)
+            shutil.copytree(os.path.join(there, rlib), os.path.join(here, rlib))
+            shutil.copy(os.path.join(there, stamp), os.path.join(here, stamp))
 
 
 def copies(todo, jobs):
