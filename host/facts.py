@@ -7,7 +7,7 @@ code proofs. Of src/ a copy has the structs and enums that the definitions speak
 An edit is made in a copy. The edited crate is checked first, then each crate above it, up to the first refusal. An edit is
 
     held      a table's theorem fails, which is named; for an edit with a line `law`, that law fails
-    misfit    refused for anything else: the edit does not typecheck, or the checker could not compute. It shows nothing
+    misfit    refused for anything else: the edit does not typecheck, or a proof no longer has the shape it needs. It shows nothing
     SURVIVED  every fact holds still
 """
 import hashlib
@@ -29,7 +29,8 @@ BRIDGES = ("parts", "asking", "taking", "packed", "device", "explain", "bench")
 OUTSIDE = ("hawsehole/Walk",)
 TABLE = re.compile(r"(Cases|Printed)$")
 ERROR = re.compile(r"crates/(\w+)/(\w+)/(\S+?)\.antt:\d+:\d+: error: (.*(?:\n +.*)*)")
-SHOWS_NOTHING = re.compile(r"not in scope|does not parse|no occurrence|could not be computed|cannot be named|unbound")
+MISFIT = re.compile(r"not in scope|does not parse|cannot be named|no such name|unbound")
+SHAPE = re.compile(r"no occurrence|could not be computed")
 TYPE = re.compile(r"^pub (?:struct|enum) (?:[^\n{]*;|[^\n{]*\{\n(?:.*\n)*?\})\n", re.M)
 USE = re.compile(r"^use (\w+)::(\w+);\n", re.M)
 LAW = re.compile(r"^use Rattle·(\w+)(?:·proofs)?\.proofs\.(\w+)", re.M)
@@ -179,12 +180,12 @@ def judged(e, text):
         return "misfit", "no error was found in what the check said"
     told = []
     for crate, folder, name, message in errors:
-        called = (re.findall(r"`([^` ]+)`", message) or ["?"])[0]
-        said = "%s/%s %s" % (crate, name, called)
-        fact = said == e.law if e.law else folder == "specs" and TABLE.search(name)
-        if not fact or SHOWS_NOTHING.search(message):
-            return "misfit", said + ": " + message.split("\n")[0][:200]
-        told.append(said)
+        told.append("%s/%s %s" % (crate, name, (re.findall(r"`([^` ]+)`", message) or ["?"])[0]))
+        fact = folder == "proofs" and not SHAPE.search(message) if e.law else folder == "specs" and TABLE.search(name)
+        if not fact or MISFIT.search(message):
+            return "misfit", told[-1] + ": " + message.split("\n")[0][:200]
+    if e.law and e.law not in told:
+        return "misfit", "another law: " + ", ".join(told)
     return "held", ", ".join(dict.fromkeys(told))
 
 

@@ -40,9 +40,8 @@ ROOT = os.path.dirname(HERE)
 HOME = os.path.join(ROOT, "target", "mutate")
 RESULTS = os.path.join(HOME, "results.json")
 SECONDS = 1800
-MISFIT = re.compile(
-    r"has no `Need-|error\[|does not parse|is not in scope|cannot be named|no such name|unbound|no occurrence|could not be computed"
-)
+MISFIT = re.compile(r"has no `Need-|error\[|does not parse|is not in scope|cannot be named|no such name|unbound")
+SHAPE = re.compile(r"no occurrence|could not be computed")
 ERROR = re.compile(r"crates/(\S+?:\d+):\d+: (?:error|note: it is not proved)")
 RUN = re.compile(r"^rt: (\S+: what the program wrote .*)$", re.M)
 
@@ -158,10 +157,13 @@ def judged(status, text):
         if sought:
             return "killed", sought.group(1) + ": no proof is found"
         return ("killed", ran.group(1)) if ran else ("misfit", "no error was found in what the check said")
-    line = re.match(r".*(\n  .*)*", text[first.start() :]).group(0)
+    message = re.match(r".*(\n  .*)*", text[first.start() :]).group(0)
+    line = message.split("\n")[0]
     where = first.group(1) + " " + " ".join(re.findall(r"`[^` ]+`", line)[:1])
     tables = sorted(set(re.findall(r"specs/\S+: error: (`[^`]+`): expected type `T ", text)))
-    return "misfit" if MISFIT.search(line) else "killed", where + (", tables " + " ".join(tables) if tables else "")
+    # of a table's theorem the checker may say that what it computed is not shown; the theorem fails all the same
+    shape = "/specs/" not in first.group(1) and SHAPE.search(message)
+    return "misfit" if shape or MISFIT.search(line) else "killed", where + (", tables " + " ".join(tables) if tables else "")
 
 
 def tried(e, place):
