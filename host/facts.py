@@ -99,19 +99,21 @@ def laws_for(every):
 
 
 def stripped(place, laws):
-    """Writes the crates to the copy, without code. What was proved there stays, and is used where it fits still."""
+    """Writes the crates to the copy, without code; with laws, they stand there in place of the tables. What was proved in the copy stays,
+    and is used where it fits still."""
     shutil.rmtree(os.path.join(place, "crates"), ignore_errors=True)
     order = ""
     for c in crates():
-        texts = [types(c)] + [read(c, "specs", name + ".antt") for name in files(c)]
-        shutil.copytree(os.path.join(ROOT, "crates", c, "specs"), os.path.join(place, "crates", c, "specs"))
+        texts = [types(c)]
         write(texts[0], place, "crates", c, "src", "lib.rt")
-        own = [law.split("/")[1] for law in laws if law.split("/")[0] == c]
-        if own:
-            write("".join("pub mod %s\n" % name for name in sorted(own)), place, "crates", c, "proofs", "Lib.antt")
-        for name in own:
-            texts.append(read(c, "proofs", name + ".antt"))
-            write(texts[-1], place, "crates", c, "proofs", name + ".antt")
+        own = {"specs": [name for name in files(c) if name != "Lib" and not (laws and TABLE.search(name))]}
+        own["proofs"] = [law.split("/")[1] for law in laws if law.split("/")[0] == c]
+        for folder in own:
+            for name in own[folder]:
+                texts.append(read(c, folder, name + ".antt"))
+                write(texts[-1], place, "crates", c, folder, name + ".antt")
+            if own[folder]:
+                write("".join("pub mod %s\n" % name for name in own[folder]), place, "crates", c, folder, "Lib.antt")
         order += "%s: %s\n" % (c, " ".join(stands_on(c, texts)))
     write(order, place, "crates.txt")
 
@@ -175,15 +177,16 @@ def copies(todo, jobs):
 
 def judged(e, text):
     """held or misfit, and what refused."""
-    errors = ERROR.findall(text)
+    errors = [found for found in ERROR.findall(text) if "was not admitted" not in found[3].split("\n")[0]]
     if not errors:
         return "misfit", "no error was found in what the check said"
     told = []
     for crate, folder, name, message in errors:
-        told.append("%s/%s %s" % (crate, name, (re.findall(r"`([^` ]+)`", message) or ["?"])[0]))
+        line = message.split("\n")[0]
+        told.append("%s/%s %s" % (crate, name, (re.findall(r"`([^` ]+)`", line) or ["?"])[0]))
         fact = folder == "proofs" and not SHAPE.search(message) if e.law else folder == "specs" and TABLE.search(name)
-        if not fact or MISFIT.search(message):
-            return "misfit", told[-1] + ": " + message.split("\n")[0][:200]
+        if not fact or MISFIT.search(line):
+            return "misfit", told[-1] + ": " + line[:200]
     if e.law and e.law not in told:
         return "misfit", "another law: " + ", ".join(told)
     return "held", ", ".join(dict.fromkeys(told))
