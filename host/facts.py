@@ -34,6 +34,7 @@ SHAPE = re.compile(r"no occurrence|could not be computed")
 TYPE = re.compile(r"^pub (?:struct|enum) (?:[^\n{]*;|[^\n{]*\{\n(?:.*\n)*?\})\n", re.M)
 USE = re.compile(r"^use (\w+)::(\w+);\n", re.M)
 LAW = re.compile(r"^use Rattle·(\w+)(?:·proofs)?\.proofs\.(\w+)", re.M)
+OWN = re.compile(r"^use Rattle·\w+·specs\.specs\.(\w+)", re.M)
 
 
 def read(*parts):
@@ -53,6 +54,19 @@ def files(crate):
     return sorted(name[:-5] for name in os.listdir(os.path.join(ROOT, "crates", crate, "specs")) if name.endswith(".antt"))
 
 
+def tables(crate):
+    """The tables of a crate as they are tried: the first with those that it uses, the first two, then all."""
+    every = [name for name in re.findall(r"^pub mod (\w+)", read(crate, "specs", "Lib.antt"), re.M) if TABLE.search(name)]
+    parts = []
+    for count in (1, 2, len(every)):
+        part = every[:count]
+        for name in part:
+            part += [used for used in OWN.findall(read(crate, "specs", name + ".antt")) if TABLE.search(used) and used not in part]
+        if part not in parts:
+            parts.append(part)
+    return parts
+
+
 def crates():
     """The crates of the run, the lowest first."""
     with open(os.path.join(ROOT, "crates.txt")) as f:
@@ -62,7 +76,7 @@ def crates():
 
 def definitions():
     """The definition files, as CRATE/File."""
-    every = [c + "/" + name for c in crates() for name in files(c) if name != "Lib" and not TABLE.search(name)]
+    every = [c + "/" + name for c in crates() for name in plain(c)]
     return [d for d in every if d not in OUTSIDE]
 
 
@@ -98,22 +112,30 @@ def laws_for(every):
     return found
 
 
+def put(place, crate, folder, names):
+    """Writes these files of a crate to the copy, and no others."""
+    shutil.rmtree(os.path.join(place, "crates", crate, folder), ignore_errors=True)
+    for name in names:
+        write(read(crate, folder, name + ".antt"), place, "crates", crate, folder, name + ".antt")
+    if names:
+        write("".join("pub mod %s\n" % name for name in names), place, "crates", crate, folder, "Lib.antt")
+
+
+def plain(crate):
+    return [name for name in files(crate) if name != "Lib" and not TABLE.search(name)]
+
+
 def stripped(place, laws):
     """Writes the crates to the copy, without code; with laws, they stand there in place of the tables. What was proved in the copy stays,
     and is used where it fits still."""
     shutil.rmtree(os.path.join(place, "crates"), ignore_errors=True)
     order = ""
     for c in crates():
-        texts = [types(c)]
-        write(texts[0], place, "crates", c, "src", "lib.rt")
-        own = {"specs": [name for name in files(c) if name != "Lib" and not (laws and TABLE.search(name))]}
-        own["proofs"] = [law.split("/")[1] for law in laws if law.split("/")[0] == c]
-        for folder in own:
-            for name in own[folder]:
-                texts.append(read(c, folder, name + ".antt"))
-                write(texts[-1], place, "crates", c, folder, name + ".antt")
-            if own[folder]:
-                write("".join("pub mod %s\n" % name for name in own[folder]), place, "crates", c, folder, "Lib.antt")
+        specs, proofs = plain(c) + ([] if laws else tables(c)[-1]), [law.split("/")[1] for law in laws if law.split("/")[0] == c]
+        put(place, c, "specs", specs)
+        put(place, c, "proofs", proofs)
+        write(types(c), place, "crates", c, "src", "lib.rt")
+        texts = [types(c)] + [read(c, "specs", name + ".antt") for name in specs] + [read(c, "proofs", name + ".antt") for name in proofs]
         order += "%s: %s\n" % (c, " ".join(stands_on(c, texts)))
     write(order, place, "crates.txt")
 
@@ -161,12 +183,13 @@ class Copies:
         return self.made[name]
 
     def put_back(self, name, crates_checked):
-        """What was proved of the crates before an edit."""
+        """What these crates were before an edit, and what was proved of them."""
         for c in crates_checked:
             there, here = (os.path.join(place, "target") for place in (os.path.join(HOME, name), self.made[name]))
             rlib, stamp = os.path.join("rlib", c + ".rlib"), os.path.join("stamp", c)
             shutil.rmtree(os.path.join(here, rlib), ignore_errors=True)
             shutil.copytree(os.path.join(there, rlib), os.path.join(here, rlib))
+            put(self.made[name], c, "specs", plain(c) + ([] if self.laws and name == "laws" else tables(c)[-1]))
             shutil.copy(os.path.join(there, stamp), os.path.join(here, stamp))
 
 
@@ -192,27 +215,28 @@ def judged(e, text):
     return "held", ", ".join(dict.fromkeys(told))
 
 
-def tried(e, copies):
-    """Makes the edit in the copy, checks crate after crate, and puts everything back."""
-    start, name, done = time.time(), "laws" if e.law else "facts", []
-    place = copies.get(name)
-    path = os.path.join(place, "crates", e.file)
-    with open(path) as f:
-        text = f.read()
-    with open(path, "w") as f:
-        f.write(e.applied(text))
-    verdict, where = "SURVIVED", ""
-    try:
-        for c in above(place, e.crate):
-            done.append(c)
+def refused(e, place, done):
+    """The verdict on the edit: crate after crate from its own on, each with its first table, with two, with all."""
+    for c in above(place, e.crate):
+        done.append(c)
+        for names in [[]] if e.law else tables(c):
+            put(place, c, "specs", plain(c) + names)
+            if c == e.crate:
+                write(e.applied(read(e.file)), place, "crates", e.file)
             status, said = checked(place, [c])
             if status:
-                verdict, where = judged(e, said)
-                break
+                return judged(e, said)
+    return "SURVIVED", ""
+
+
+def tried(e, copies):
+    """Makes the edit in the copy, has it judged, and puts everything back."""
+    start, name, done = time.time(), "laws" if e.law else "facts", []
+    place = copies.get(name)
+    try:
+        verdict, where = refused(e, place, done)
     except subprocess.TimeoutExpired:
         verdict, where = "misfit", "no verdict in %d seconds" % SECONDS
-    with open(path, "w") as f:
-        f.write(text)
     copies.put_back(name, done)
     return {"verdict": verdict, "where": where, "seconds": round(time.time() - start, 1), "edit": "%s: %s" % (e.file, e.why)}
 
