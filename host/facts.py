@@ -1,15 +1,18 @@
 """The facts run of host/mutate.py: is an edit of a definition refused by a fact alone?
 
-Someone who changes the definition and the code together meets no failing code proof. What is left to stop him are facts: the tables of
-cases that the checker computes (`*Cases`, `Printed`), and the laws. So this run works on copies of the crates that have no code and no
-code proofs. Of src/ a copy has the structs and enums that the definitions speak of. Of specs/ it has every file.
+Someone who changes the definition and the code together meets no failing code proof. Only facts stop him: the tables of cases that the
+checker computes (`*Cases`, `Printed`), and the laws. So this run works on copies of the crates that have no code and no code proofs. Of
+src/ a copy has the structs and enums that the definitions speak of. Of specs/ it has every file. For an edit with a line `law`, the copy
+has that law, and those it cites, in place of the tables.
 
-An edit is made in a copy. The edited crate is checked first, then each crate above it, up to the first refusal. An edit is
+An edit is made in a copy. The edited crate is checked first, then each crate above it, up to the first refusal. A crate is checked with
+its first table, with the first two, then with all: most edits need no more than the first. An edit is
 
-    held      a table's theorem fails, which is named; for an edit with a line `law`, that law fails
+    held      a table's theorem fails, or the law that the edit names; what failed is named
     misfit    refused for anything else: the edit does not typecheck, or a proof no longer has the shape it needs. It shows nothing
-    SURVIVED  every fact holds still
+    SURVIVED  every fact still holds
 """
+import functools
 import hashlib
 import os
 import re
@@ -54,8 +57,13 @@ def files(crate):
     return sorted(name[:-5] for name in os.listdir(os.path.join(ROOT, "crates", crate, "specs")) if name.endswith(".antt"))
 
 
+def plain(crate):
+    """The files of a crate's specs/ that are no tables."""
+    return [name for name in files(crate) if name != "Lib" and not TABLE.search(name)]
+
+
 def tables(crate):
-    """The tables of a crate as they are tried: the first with those that it uses, the first two, then all."""
+    """The tables of a crate as they are tried: the first, with those that it uses; the first two; all."""
     every = [name for name in re.findall(r"^pub mod (\w+)", read(crate, "specs", "Lib.antt"), re.M) if TABLE.search(name)]
     parts = []
     for count in (1, 2, len(every)):
@@ -102,14 +110,11 @@ def stands_on(crate, texts):
 
 
 def laws_for(every):
-    """The law files that the edits name and all that those use, as CRATE/File."""
-    todo, found = [e.law.split()[0] for e in every if e.law], []
-    while todo:
-        law = todo.pop()
-        if law not in found:
-            found.append(law)
-            todo += ["/".join(used) for used in LAW.findall(read(law.split("/")[0], "proofs", law.split("/")[1] + ".antt"))]
-    return found
+    """The law files that the edits name and all that those use, as pairs of crate and file."""
+    laws = list(dict.fromkeys(tuple(e.law.split()[0].split("/")) for e in every if e.law))
+    for crate, name in laws:
+        laws += [used for used in LAW.findall(read(crate, "proofs", name + ".antt")) if used not in laws]
+    return laws
 
 
 def put(place, crate, folder, names):
@@ -121,22 +126,18 @@ def put(place, crate, folder, names):
         write("".join("pub mod %s\n" % name for name in names), place, "crates", crate, folder, "Lib.antt")
 
 
-def plain(crate):
-    return [name for name in files(crate) if name != "Lib" and not TABLE.search(name)]
-
-
 def stripped(place, laws):
     """Writes the crates to the copy, without code; with laws, they stand there in place of the tables. What was proved in the copy stays,
     and is used where it fits still."""
     shutil.rmtree(os.path.join(place, "crates"), ignore_errors=True)
     order = ""
     for c in crates():
-        specs, proofs = plain(c) + ([] if laws else tables(c)[-1]), [law.split("/")[1] for law in laws if law.split("/")[0] == c]
-        put(place, c, "specs", specs)
-        put(place, c, "proofs", proofs)
+        own = {"specs": plain(c) + ([] if laws else tables(c)[-1]), "proofs": [name for crate, name in laws if crate == c]}
         write(types(c), place, "crates", c, "src", "lib.rt")
-        texts = [types(c)] + [read(c, "specs", name + ".antt") for name in specs] + [read(c, "proofs", name + ".antt") for name in proofs]
-        order += "%s: %s\n" % (c, " ".join(stands_on(c, texts)))
+        for folder, names in own.items():
+            put(place, c, folder, names)
+        texts = [read(c, folder, name + ".antt") for folder, names in own.items() for name in names]
+        order += "%s: %s\n" % (c, " ".join(stands_on(c, [types(c)] + texts)))
     write(order, place, "crates.txt")
 
 
@@ -151,51 +152,57 @@ def above(place, crate):
     return found
 
 
-def checked(place, crate):
-    environment = dict(os.environ, RT_JOBS="1", RT_CUT="400")
-    done = subprocess.run(["rt", "check"] + crate, cwd=place, env=environment, stdout=subprocess.PIPE, stderr=subprocess.STDOUT, timeout=SECONDS)
+def checked(place, names, jobs=1):
+    """The check of these crates, or of all: its status, and what it said."""
+    environment = dict(os.environ, RT_JOBS=str(jobs), RT_CUT="400")
+    done = subprocess.run(["rt", "check"] + names, cwd=place, env=environment, stdout=subprocess.PIPE, stderr=subprocess.STDOUT, timeout=SECONDS)
     return done.returncode, done.stdout.decode(errors="replace")
 
 
-def proved(name, laws):
-    """The copy with no edit, proved."""
-    place = os.path.join(HOME, name)
-    stripped(place, laws)
-    status, text = checked(place, [])
-    if status:
-        sys.exit("the definitions as they are do not hold (%s):\n%s" % (place, text))
-    return place
+class Base:
+    """The copy with no edit, proved when it is asked for."""
+
+    def __init__(self, name, laws, jobs):
+        self.place, self.laws, self.jobs = os.path.join(HOME, name), laws, jobs
+        self.lock, self.ready = threading.Lock(), False
+
+    def proved(self):
+        with self.lock:
+            if not self.ready:
+                stripped(self.place, self.laws)
+                status, text = checked(self.place, [], self.jobs)
+                if status:
+                    sys.exit("the definitions as they are do not hold (%s):\n%s" % (self.place, text))
+                self.ready = True
+        return self.place
 
 
-class Copies:
-    """Two copies for one job: one without laws, and one with those that edits name, made when it is asked for."""
+class Copy:
+    """A job's own copy of a base, for one edit at a time."""
 
-    def __init__(self, place, laws, lock):
-        self.place, self.laws, self.lock, self.made = place, laws, lock, {}
+    def __init__(self, base, number):
+        self.base, self.place, self.made = base, "%s-%d" % (base.place, number), False
 
-    def get(self, name):
-        if name not in self.made:
-            place = self.place + "-" + name
-            shutil.rmtree(place, ignore_errors=True)
-            with self.lock:
-                shutil.copytree(proved(name, self.laws if name == "laws" else []), place)
-            self.made[name] = place
-        return self.made[name]
+    def make(self):
+        if not self.made:
+            proved = self.base.proved()
+            shutil.rmtree(self.place, ignore_errors=True)
+            shutil.copytree(proved, self.place)
+            self.made = True
 
-    def put_back(self, name, crates_checked):
-        """What these crates were before an edit, and what was proved of them."""
-        for c in crates_checked:
-            there, here = (os.path.join(place, "target") for place in (os.path.join(HOME, name), self.made[name]))
-            rlib, stamp = os.path.join("rlib", c + ".rlib"), os.path.join("stamp", c)
-            shutil.rmtree(os.path.join(here, rlib), ignore_errors=True)
-            shutil.copytree(os.path.join(there, rlib), os.path.join(here, rlib))
-            put(self.made[name], c, "specs", plain(c) + ([] if self.laws and name == "laws" else tables(c)[-1]))
-            shutil.copy(os.path.join(there, stamp), os.path.join(here, stamp))
+    def put_back(self, names):
+        """These crates as they were before an edit, with what was proved of them."""
+        for c in names:
+            for part in (("crates", c), ("target", "rlib", c + ".rlib")):
+                shutil.rmtree(os.path.join(self.place, *part), ignore_errors=True)
+                shutil.copytree(os.path.join(self.base.place, *part), os.path.join(self.place, *part))
+            shutil.copy(os.path.join(self.base.place, "target", "stamp", c), os.path.join(self.place, "target", "stamp", c))
 
 
 def copies(todo, jobs):
-    lock, laws = threading.Lock(), laws_for(todo)
-    return [Copies(os.path.join(HOME, "facts-%d" % (i + 1)), laws, lock) for i in range(jobs)]
+    """For each job the two copies that it may need: with tables, and with laws."""
+    tabled, lawful = Base("facts", [], jobs), Base("laws", laws_for(todo), jobs)
+    return [(Copy(tabled, i + 1), Copy(lawful, i + 1)) for i in range(jobs)]
 
 
 def judged(e, text):
@@ -229,34 +236,29 @@ def refused(e, place, done):
     return "SURVIVED", ""
 
 
-def tried(e, copies):
+def tried(e, pair):
     """Makes the edit in the copy, has it judged, and puts everything back."""
-    start, name, done = time.time(), "laws" if e.law else "facts", []
-    place = copies.get(name)
+    start, done, copy = time.time(), [], pair[1 if e.law else 0]
+    copy.make()
     try:
-        verdict, where = refused(e, place, done)
+        verdict, where = refused(e, copy.place, done)
     except subprocess.TimeoutExpired:
         verdict, where = "misfit", "no verdict in %d seconds" % SECONDS
-    copies.put_back(name, done)
+    copy.put_back(done)
     return {"verdict": verdict, "where": where, "seconds": round(time.time() - start, 1), "edit": "%s: %s" % (e.file, e.why)}
 
 
-SUMS = {}
-
-
+@functools.lru_cache(maxsize=None)
 def sum_of(laws):
-    """All that the verdicts hang on but the edit."""
-    name = " ".join(laws)
-    if name not in SUMS:
-        texts = [types(c) + "".join(name + read(c, "specs", name + ".antt") for name in files(c)) for c in crates()]
-        texts += [read(law.split("/")[0], "proofs", law.split("/")[1] + ".antt") for law in sorted(laws)]
-        SUMS[name] = hashlib.sha256("\0".join(texts).encode()).hexdigest()
-    return SUMS[name]
+    """All that a verdict hangs on but the edit."""
+    texts = [types(c) + "".join(name + read(c, "specs", name + ".antt") for name in files(c)) for c in crates()]
+    texts += [read(crate, "proofs", name + ".antt") for crate, name in laws]
+    return hashlib.sha256("\0".join(texts).encode()).hexdigest()
 
 
 def key_of(e):
-    law = laws_for([e])
-    return hashlib.sha256(repr((e.file, e.old, e.new, e.nth, e.law, sum_of(law))).encode()).hexdigest()[:32]
+    sums = sum_of(tuple(sorted(laws_for([e]))))
+    return hashlib.sha256(repr((e.file, e.old, e.new, e.nth, e.law, sums)).encode()).hexdigest()[:32]
 
 
 def one_of_each(every):
