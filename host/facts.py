@@ -28,8 +28,8 @@ RESULTS = os.path.join(HOME, "results-facts.json")
 SECONDS = 600
 # Their definitions are for the code behind the public calls. Each is proved equal to the rules by a law or a contract.
 BRIDGES = ("parts", "asking", "taking", "packed", "device", "explain", "bench")
-# States a fact for a theorem, and that theorem needs the code's own laws.
-OUTSIDE = ("hawsehole/Walk",)
+# No definitions of answers: a fact for a theorem, which needs the code's own laws; and what tables share.
+OUTSIDE = ("hawsehole/Walk", "units/Facts", "hawsehole/Traces")
 TABLE = re.compile(r"(Cases|Printed)$")
 ERROR = re.compile(r"crates/(\w+)/(\w+)/(\S+?)\.antt:\d+:\d+: error: (.*(?:\n +.*)*)")
 MISFIT = re.compile(r"not in scope|does not parse|cannot be named|no such name|unbound")
@@ -82,6 +82,7 @@ def crates():
     return [c for c in names if c not in BRIDGES]
 
 
+@functools.lru_cache(maxsize=None)
 def definitions():
     """The definition files, as CRATE/File."""
     every = [c + "/" + name for c in crates() for name in plain(c)]
@@ -90,8 +91,8 @@ def definitions():
 
 def definition_of(e):
     """The definition file that an edit is in, or nothing."""
-    path = e.file.split("/")
-    return "/".join((path[0], path[-1][:-5])) if path[1] == "specs" and path[0] not in BRIDGES and not TABLE.search(path[-1][:-5]) else ""
+    crate, folder, name = e.file.split("/")[0], e.file.split("/")[1], e.file.split("/")[-1][:-5]
+    return "%s/%s" % (crate, name) if folder == "specs" and "%s/%s" % (crate, name) in definitions() else ""
 
 
 def types(crate):
