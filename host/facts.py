@@ -210,7 +210,7 @@ def judged(e, text):
     """held or misfit, and what refused."""
     errors = [found for found in ERROR.findall(text) if "was not admitted" not in found[3].split("\n")[0]]
     if not errors:
-        return "misfit", "no error was found in what the check said"
+        return "misfit", "no error was found in what the check said: " + text.strip().split("\n")[-1][:200]
     told = []
     for crate, folder, name, message in errors:
         line = message.split("\n")[0]
