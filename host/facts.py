@@ -6,7 +6,7 @@ src/ a copy has the structs and enums that the definitions speak of. Of specs/ i
 has that law, and those it cites, in place of the tables.
 
 An edit is made in a copy. The edited crate is checked first, then each crate above it, up to the first refusal. A crate is checked with
-its first table, with the first two, then with all: most edits need no more than the first. An edit is
+one table after another, then with all of them: most edits need no more than the first. An edit is
 
     held      a table's theorem fails, or the law that the edit names; what failed is named
     misfit    refused for anything else: the edit does not typecheck, or a proof no longer has the shape it needs. It shows nothing
@@ -63,16 +63,13 @@ def plain(crate):
 
 
 def tables(crate):
-    """The tables of a crate as they are tried: the first, with those that it uses; the first two; all."""
+    """The tables of a crate as they are tried: each by itself, with those that it uses; then all."""
     every = [name for name in re.findall(r"^pub mod (\w+)", read(crate, "specs", "Lib.antt"), re.M) if TABLE.search(name)]
-    parts = []
-    for count in (1, 2, len(every)):
-        part = every[:count]
+    parts = [[name] for name in every]
+    for part in parts:
         for name in part:
             part += [used for used in OWN.findall(read(crate, "specs", name + ".antt")) if TABLE.search(used) and used not in part]
-        if part not in parts:
-            parts.append(part)
-    return parts
+    return parts + [every] if len(every) != 1 else parts
 
 
 def crates():
@@ -224,7 +221,7 @@ def judged(e, text):
 
 
 def refused(e, place, done):
-    """The verdict on the edit: crate after crate from its own on, each with its first table, with two, with all."""
+    """The verdict on the edit: crate after crate from its own on, each with one table after another, then with all."""
     for c in above(place, e.crate):
         done.append(c)
         for names in [[]] if e.law else tables(c):
