@@ -6,7 +6,7 @@ src/ a copy has the structs and enums that the definitions speak of. Of specs/ i
 has that law, and those it cites, in place of the tables.
 
 An edit is made in a copy. The edited crate is checked first, then each crate above it, up to the first refusal. A crate is checked with
-one table after another, then with all of them: most edits need no more than the first. An edit is
+each table that uses no other, then with all of them: most edits need no more than the first. An edit is
 
     held      a table's theorem fails, or the law that the edit names; what failed is named
     misfit    refused for anything else: the edit does not typecheck, or a proof no longer has the shape it needs. It shows nothing
@@ -63,13 +63,10 @@ def plain(crate):
 
 
 def tables(crate):
-    """The tables of a crate as they are tried: each by itself, with those that it uses; then all."""
+    """The tables of a crate as they are tried: each that uses no other by itself, then all."""
     every = [name for name in re.findall(r"^pub mod (\w+)", read(crate, "specs", "Lib.antt"), re.M) if TABLE.search(name)]
-    parts = [[name] for name in every]
-    for part in parts:
-        for name in part:
-            part += [used for used in OWN.findall(read(crate, "specs", name + ".antt")) if TABLE.search(used) and used not in part]
-    return parts + [every] if len(every) != 1 else parts
+    alone = [[name] for name in every if not any(TABLE.search(used) for used in OWN.findall(read(crate, "specs", name + ".antt")))]
+    return alone if alone == [every] else alone + [every]
 
 
 def crates():
@@ -221,7 +218,7 @@ def judged(e, text):
 
 
 def refused(e, place, done):
-    """The verdict on the edit: crate after crate from its own on, each with one table after another, then with all."""
+    """The verdict on the edit: crate after crate from its own on, each with one table at a time, then with all."""
     for c in above(place, e.crate):
         done.append(c)
         for names in [[]] if e.law else tables(c):
