@@ -2,7 +2,7 @@
 use Prim.Native.Nat.{ℕ}
 use native.Mathlib.Omega.{arith}
 use mathlib.Core.Path.{_≡_, refl, ap, sym, _∙_}
-use mathlib.Core.Bool.{Bool, true, false, not, _&&_, _||_, cond, and-true, and-false, or-false}
+use mathlib.Core.Bool.{Bool, true, false, not, _&&_, _||_, cond, and-true, or-false}
 use mathlib.Core.List.{List, [], _∷_}
 use lib.Dec.{ltb}
 use lib.ListN.{length, getD}
@@ -16,19 +16,17 @@ use Rattle.layout.specs.Commands.{is}
 use Rattle.mode.specs.Word.{length-of}
 use Rattle.bursts.specs.declared.Burst.{Burst}
 use Rattle.bursts.specs.declared.Beat.the-variants.{Quiet}
-use Rattle.bursts.specs.Burst.{no-burst, burst-at, cut-if, cut-by, reads-on, to-come, read-beat, finished}
+use Rattle.bursts.specs.Burst.{no-burst, burst-at, cut-if, cut-by, reads-on, read-beat, finished}
 use Rattle.bursts.specs.Bus.{
   reads-beat,
   reads-run,
   cut-each,
   written-over,
-  gives-way,
   with-room,
   reads-from,
   reads-after,
   reads-finished,
 }
-use Rattle.bursts.proofs.Cutting.{written-cut}
 
 -- what an array of bursts is taken to hold past its end
 abbrev pub past : Burst
@@ -48,8 +46,8 @@ four (a ∷ b ∷ c ∷ d ∷ []) h = refl
 four (a ∷ b ∷ c ∷ d ∷ e ∷ l) h = absurd (omega arith)
 
 -- READ d runs and was registered after READ b
-abbrev outruns : Burst → Burst → Clock → Bool
-outruns d b n = ltb (b .start .0) (d .start .0) && reads-on d n
+abbrev pub outruns : Burst → Burst → Clock → Bool
+outruns d b n = reads-on d n && ltb (b .start .0) (d .start .0)
 
 module _ (bs : List Burst) (h : length bs ≡ 4) where
   -- the beat of the READs is that of the one registered last of those that run
@@ -97,41 +95,20 @@ module _ (bs : List Burst) (h : length bs ≡ 4) where
       ∷ [])
   written-four n = ap (written-over n) (four bs h)
 
-  -- a READ cuts those before it, and one of them makes room
-  pub new-first : (k : Command) (r : Record) (n : Clock) (word row : ℕ) → is k Write ≡ false → is k Read ≡ true
-      → (burst-at word n (r .addr) (r .column) (r .ba) row
-      ∷ with-room n
-      (cut-if true n (burst bs 0)
-      ∷ cut-if true n (burst bs 1)
-      ∷ cut-if true n (burst bs 2)
-      ∷ cut-if true n (burst bs 3)
-      ∷ []))
+module _ (k : Command) (r : Record) (n : Clock) (word row : ℕ) (bs : List Burst) where
+  -- a WRITE leaves the READs that are not before it
+  pub after-write : is k Write ≡ true → written-over n bs ≡ reads-after k r n word row bs
+  unfolding reads-from
+  after-write w = rw w
+
+  -- a READ comes first, and cuts the three that stay
+  pub after-read : is k Write ≡ false → is k Read ≡ true → (x y z : Burst) → with-room n bs ≡ (x ∷ y ∷ z ∷ [])
+      → (burst-at word n (r .addr) (r .column) (r .ba) row ∷ cut-if true n x ∷ cut-if true n y ∷ cut-if true n z ∷ [])
       ≡ reads-after k r n word row bs
   unfolding reads-from
-  new-first k r n word row w e = rw (w, e, cut-each-four k (r .addr) (r .ba) n, e)
+  after-read w e x y z q = rw (w, e, q, e)
 
--- a WRITE's READs need not be cut first
-pub after-write : (k : Command) (r : Record) (n : Clock) (word row : ℕ) (bs : List Burst) → is k Write ≡ true
-    → written-over n bs ≡ reads-after k r n word row bs
-unfolding reads-from
-after-write k r n word row bs w = rw w (sym (written-cut k (r .addr) (r .ba) n bs))
-
--- any command but READ and WRITE leaves those that it cut
-pub kept-otherwise : (k : Command) (n : Clock) (new : Burst) (bs : List Burst) → is k Write ≡ false → is k Read ≡ false
-    → bs ≡ reads-from k n new bs
-unfolding reads-from
-kept-otherwise k n new bs w r = rw (w, r)
-
--- ── Which READ makes room ──
-
-module _ (n : Clock) (a b c d : Burst) where
-  -- the fourth, where it has no beat to come
-  pub fourth-gives-way : to-come n d ≡ false → (a ∷ b ∷ c ∷ []) ≡ with-room n (a ∷ b ∷ c ∷ d ∷ [])
-  fourth-gives-way h = simp (h, and-false)
-
-  -- the first, the second, the third or the fourth of the four
-  pub room-of-four :
-      with-room n (a ∷ b ∷ c ∷ d ∷ [])
-      ≡ cond (gives-way n a b && (gives-way n a c && gives-way n a d)) (b ∷ c ∷ d ∷ [])
-      (a ∷ cond (gives-way n b c && gives-way n b d) (c ∷ d ∷ []) (b ∷ cond (gives-way n c d) (d ∷ []) (c ∷ [])))
-  room-of-four = simp and-true
+  -- any other command cuts those that it ends
+  pub after-others : is k Write ≡ false → is k Read ≡ false → cut-each k (r .addr) (r .ba) n bs ≡ reads-after k r n word row bs
+  unfolding reads-from
+  after-others w e = rw (w, e)

@@ -1,7 +1,10 @@
 pub mod AutoPrecharge
 pub mod Cutting
+pub mod First
 pub mod Four
 pub mod HasBeat
 pub mod HeldMasks
+pub mod Latest
+pub mod Room
 pub mod Running
 pub mod Untouched

@@ -34,13 +34,12 @@ use Rattle.bursts.proofs.HasBeat.{reads-none}
 -- a later READ that runs is one that runs
 later-runs : (x : Clock) (bs : List Burst) (n : Clock) → later-run x bs n ≡ true → reads-run bs n ≡ true
 later-runs x [] n h = absurd (true≢false (sym h))
-later-runs x (b ∷ bs) n h = go (ltb (x .0) (b .start .0)) (reads-on b n) (later-runs x bs n) h
+later-runs x (b ∷ bs) n h = go (reads-on b n) (ltb (x .0) (b .start .0)) (later-runs x bs n) h
   where
-    go : (y z : Bool) → (later-run x bs n ≡ true → reads-run bs n ≡ true) → (y && z || later-run x bs n) ≡ true
+    go : (z y : Bool) → (later-run x bs n ≡ true → reads-run bs n ≡ true) → (z && y || later-run x bs n) ≡ true
         → (z || reads-run bs n) ≡ true
-    go y true ih e = refl
-    go true false ih e = ih e
-    go false false ih e = ih e
+    go true y ih e = refl
+    go false y ih e = ih e
 
 -- all READs of a clock have the same masks: a lane is driven where some beat runs and some lane is LOW
 drives-any : (bs : List Burst) (masks : ℕ) (n : Clock) → drives-lane (reads-beat bs masks n) ≡ (reads-run bs n && not (eqb (lanes-low masks) 0))

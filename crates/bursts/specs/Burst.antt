@@ -73,10 +73,13 @@ cut-by k addr ba n b = cut-if (ends k addr ba (b .bank)) n b
 
 -- ── Beats ──
 
+-- the burst has begun by clock n, and is not lost by then
+abbrev pub in-time : Burst → Clock → Bool
+in-time b n = b .live && leb (b .start .0) (n .0) && before-cut (b .start) n (b .cut)
+
 -- beat i = n - start is one of the burst's, and is not lost
 unfoldable pub has-beat : Burst → ℕ → Bool → Clock → Bool
-has-beat b length endless n =
-    b .live && leb (b .start .0) (n .0) && before-cut (b .start) n (b .cut) && (endless || ltb (n .0) (b .start .0 + length))
+has-beat b length endless n = in-time b n && (endless || ltb (n .0) (b .start .0 + length))
 
 -- "Lanes with DQMB LOW"
 abbrev pub lanes-low : ℕ → ℕ

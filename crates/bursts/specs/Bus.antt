@@ -65,7 +65,7 @@ reads-run (b ∷ bs) n = reads-on b n || reads-run bs n
 -- some READ that was registered after clock x has a beat on clock n
 abbrev pub later-run : Clock → List Burst → Clock → Bool
 later-run x [] n = false
-later-run x (b ∷ bs) n = (ltb (x .0) (b .start .0) && reads-on b n) || later-run x bs n
+later-run x (b ∷ bs) n = (reads-on b n && ltb (x .0) (b .start .0)) || later-run x bs n
 
 -- of READ bursts, that of the latest; of two registered on one clock, the first of the list
 abbrev pub reads-beat : List Burst → ℕ → Clock → Beat
@@ -87,9 +87,14 @@ abbrev pub written-over : Clock → List Burst → List Burst
 written-over n [] = []
 written-over n (b ∷ bs) = cond (ltb (b .start .0) (n .0)) no-burst b ∷ written-over n bs
 
--- READ b makes room for a new one before READ d: d has beats to come, and b has none, or was registered before d
+-- of two READs registered on clocks x and y, the first makes room for a new one: the second has beats to come (d), and the first has
+-- none (b), or was registered before it
+abbrev pub makes-room : Bool → Bool → ℕ → ℕ → Bool
+makes-room b d x y = d && (not b || ltb x y)
+
+-- READ b makes room before READ d
 abbrev pub gives-way : Clock → Burst → Burst → Bool
-gives-way n b d = to-come n d && (not (to-come n b) || ltb (b .start .0) (d .start .0))
+gives-way n b d = makes-room (to-come n b) (to-come n d) (b .start .0) (d .start .0)
 
 abbrev pub gives-way-first : Clock → Burst → List Burst → Bool
 gives-way-first n b [] = true
@@ -100,14 +105,16 @@ abbrev pub with-room : Clock → List Burst → List Burst
 with-room n [] = []
 with-room n (b ∷ bs) = cond (gives-way-first n b bs) bs (b ∷ with-room n bs)
 
--- the READ bursts after command k on clock n, from those that it left cut
-unfoldable pub reads-from : Command → Clock → Burst → List Burst → List Burst
-reads-from k n new bs = cond (is k Write) (written-over n bs) (cond (is k Read) (new ∷ with-room n bs) bs)
+-- the READ bursts after command k on clock n, which begins the burst `new` where it is a READ
+unfoldable pub reads-from : Command → ℕ → ℕ → Clock → Burst → List Burst → List Burst
+reads-from k addr ba n new bs =
+    cond (is k Write) (written-over n bs)
+    (cond (is k Read) (new ∷ cut-each k addr ba n (with-room n bs)) (cut-each k addr ba n bs))
 
 -- the READ bursts after command k of record r on clock n, in mode `word`, of the open row
 abbrev pub reads-after : Command → Record → Clock → ℕ → ℕ → List Burst → List Burst
 reads-after k r n word row bs =
-    reads-from k n (burst-at word n (r .addr) (r .column) (r .ba) row) (cut-each k (r .addr) (r .ba) n bs)
+    reads-from k (r .addr) (r .ba) n (burst-at word n (r .addr) (r .column) (r .ba) row) bs
 
 -- the WRITE burst after it
 abbrev pub write-after : Command → Record → Clock → ℕ → ℕ → Burst → Burst

@@ -501,11 +501,13 @@ reads-left =
     ∷ with-room (clock 110) (no-burst ∷ over ∷ b100 ∷ b101 ∷ []) gives (no-burst ∷ b100 ∷ b101 ∷ [])
     ∷ with-room (clock 110) (b100 ∷ eight 100 40 ∷ b101 ∷ b102 ∷ []) gives (b100 ∷ b101 ∷ b102 ∷ [])
     ∷ with-room (clock 110) no-reads gives (no-burst ∷ no-burst ∷ no-burst ∷ [])
-    -- the new READ comes first; a WRITE takes a place of its own; another command leaves them
-    ∷ reads-from Read (clock 110) new (b103 ∷ over ∷ b101 ∷ b100 ∷ []) gives (new ∷ b103 ∷ b101 ∷ b100 ∷ [])
-    ∷ reads-from Write (clock 103) new (b103 ∷ b102 ∷ b101 ∷ b100 ∷ []) gives (b103 ∷ no-burst ∷ no-burst ∷ no-burst ∷ [])
-    ∷ reads-from Nop (clock 110) new (b103 ∷ over ∷ b101 ∷ b100 ∷ []) gives (b103 ∷ over ∷ b101 ∷ b100 ∷ [])
-    ∷ reads-from Terminate (clock 110) new (b103 ∷ over ∷ b101 ∷ b100 ∷ []) gives (b103 ∷ over ∷ b101 ∷ b100 ∷ [])
+    -- the new READ comes first and cuts the others; a WRITE takes a place of its own; NOP leaves them, BURST TERMINATE cuts them
+    ∷ reads-from Read 0 2 (clock 110) new (b103 ∷ over ∷ b101 ∷ b100 ∷ [])
+    gives (new ∷ cut-at 110 b103 ∷ cut-at 110 b101 ∷ cut-at 110 b100 ∷ [])
+    ∷ reads-from Write 0 2 (clock 103) new (b103 ∷ b102 ∷ b101 ∷ b100 ∷ []) gives (b103 ∷ no-burst ∷ no-burst ∷ no-burst ∷ [])
+    ∷ reads-from Nop 0 2 (clock 110) new (b103 ∷ over ∷ b101 ∷ b100 ∷ []) gives (b103 ∷ over ∷ b101 ∷ b100 ∷ [])
+    ∷ reads-from Terminate 0 2 (clock 110) new (b103 ∷ over ∷ b101 ∷ b100 ∷ [])
+    gives (cut-at 110 b103 ∷ cut-at 110 over ∷ cut-at 110 b101 ∷ cut-at 110 b100 ∷ [])
     -- a PRECHARGE of bank 2, and of all
     ∷ reads-after Precharge (rec 0 Precharge 0 0) (clock 102) 0x31 9 (b100 ∷ second Never ∷ [])
     gives (b100 ∷ second (On (clock 102)) ∷ [])

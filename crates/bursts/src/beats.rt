@@ -2,7 +2,7 @@
 ghost use Prim.Native.Nat.{_-_, max};
 ghost use mathlib.Core.Path.{_≡_};
 ghost use Rattle.units.specs.Time.{clock};
-ghost use Rattle.bursts.specs.Burst.{before-cut, has-beat, lanes-low, cells-at, write-beat, reads-on, to-come, read-beat, finished};
+ghost use Rattle.bursts.specs.Burst.{before-cut, in-time, has-beat, lanes-low, cells-at, write-beat, reads-on, to-come, read-beat, finished};
 ghost use Rattle.bursts.specs.Bus.{stores-in};
 use crate::Beat;
 use crate::Burst;
@@ -63,10 +63,10 @@ pub fn cells_at(bank: u8, row: u16, word: u16, column: u16, i: u64, masks: u8) -
 }
 
 impl Burst {
-    // The burst has a beat n - start: it is not ahead, not cut by then, and not at its end. By subtraction, so that no
-    // sum can pass 64 bits.
-    pub fn has_beat(self, length: u16, endless: bool, n: Clock) -> bool
-        ensures { λ r. ⌜ r ≡ has-beat self length endless n ⌝ }
+    // The burst has begun by clock n, and is not cut by then. It is asked before any length is worked out: most bursts that
+    // are held have been cut.
+    fn in_time(self, n: Clock) -> bool
+        ensures { λ r. ⌜ r ≡ in-time self n ⌝ }
     {
         if !self.live {
             return false;
@@ -76,32 +76,38 @@ impl Burst {
             return false;
         }
         let cut = self.cut;
-        let kept = before_cut(start, n, cut);
-        kept & (endless | (n.0 - start.0 < length as u64))
+        before_cut(start, n, cut)
     }
 
-    // "WRITE at w: beat i on w + i", stored on the lanes with DQMB LOW on that clock. With M9 = 1 there is one beat. The
-    // cut is looked at first: a burst that is cut by then needs no length.
+    // The burst has a beat n - start: it is not ahead, not cut by then, and not at its end. By subtraction, so that no
+    // sum can pass 64 bits.
+    pub fn has_beat(self, length: u16, endless: bool, n: Clock) -> bool
+        ensures { λ r. ⌜ r ≡ has-beat self length endless n ⌝ }
+    {
+        if !self.in_time(n) {
+            return false;
+        }
+        endless | (n.0 - self.start.0 < length as u64)
+    }
+
+    // "WRITE at w: beat i on w + i", stored on the lanes with DQMB LOW on that clock. With M9 = 1 there is one beat.
     pub fn write_beat(self, masks: u8, n: Clock) -> Beat
         ensures { λ r. ⌜ r ≡ write-beat self masks n ⌝ }
     {
-        let start = self.start;
-        let cut = self.cut;
-        if !(self.live & before_cut(start, n, cut)) {
+        if !self.in_time(n) {
             return Beat::Quiet;
         }
+        let i = n.0 - self.start.0;
         let length = write_length(self.word);
         let endless = write_endless(self.word);
-        if self.has_beat(length, endless, n) {
-            let i = n.0 - self.start.0;
+        if endless | (i < length as u64) {
             let cells = cells_at(self.bank, self.row, self.word, self.column, i, masks);
             return Beat::Stores(cells);
         }
         Beat::Quiet
     }
 
-    // "READ at r: beat i on r + CL + i": on clock n runs the beat that was fetched CL clocks before. The cut first, as
-    // above.
+    // "READ at r: beat i on r + CL + i": on clock n runs the beat that was fetched CL clocks before.
     pub fn reads_on(self, n: Clock) -> bool
         ensures { λ r. ⌜ r ≡ reads-on self n ⌝ }
     {
@@ -112,15 +118,13 @@ impl Burst {
         if n.0 < cl {
             return false;
         }
-        let start = self.start;
-        let cut = self.cut;
         let m = Clock(n.0 - cl);
-        if !before_cut(start, m, cut) {
+        if !self.in_time(m) {
             return false;
         }
         let length = length_of(self.word);
         let endless = full_page(self.word);
-        self.has_beat(length, endless, m)
+        endless | (m.0 - self.start.0 < length as u64)
     }
 
     // Some beat is on clock n or later. Beats are fetched clock after clock, so the first from CL before n on tells.

@@ -1,7 +1,6 @@
 // The four READ bursts that can still have beats (01, Beats). In a trace the latest stands first. They are walked by value.
 ghost use mathlib.Core.Path.{_≡_};
-ghost use mathlib.Core.Bool.{not, _&&_, _||_, cond};
-ghost use mathlib.Core.List.{[], _∷_};
+ghost use mathlib.Core.Bool.{true, not, _&&_, _||_, cond};
 ghost use lib.Dec.{ltb};
 ghost use Rattle.layout.specs.declared.Command.the-variants.{Terminate, Precharge};
 ghost use Rattle.layout.specs.Commands.{is, access};
@@ -15,8 +14,7 @@ ghost use Rattle.bursts.specs.Bus.{
   reads-run,
   cut-each,
   written-over,
-  gives-way,
-  with-room,
+  makes-room,
   reads-after,
   reads-finished,
 };
@@ -33,7 +31,7 @@ use mode::length_of;
 use units::Clock;
 use units::Event;
 
-// No READ burst: what a WRITE leaves.
+// No READ burst: before the first READ.
 pub fn no_reads() -> [Burst; 4]
     ensures { λ r. ⌜ r ≡ no-reads ⌝ }
 {
@@ -48,38 +46,56 @@ pub fn can_end(k: Command) -> bool
     is_access(k) | is(k, Command::Terminate) | is(k, Command::Precharge)
 }
 
-// The beat of the READ bursts on clock n: of those that run, the one registered last. The masks of two clocks before are
-// looked up only where a READ runs.
+// Which of four READs was registered last, of those that run: a, b, c and d say which run, and one does; the numbers are the
+// clocks of their registration. Numbers, not the bursts: what is handed on is copied.
+fn latest(a: bool, b: bool, c: bool, d: bool, w: u64, x: u64, y: u64, z: u64) -> u8
+    ensures { λ r. ⌜ r ≡ cond (a && not ((b && ltb w x) || ((c && ltb w y) || (d && ltb w z)))) 0 (cond (b && not ((c && ltb x y) || (d && ltb x z))) 1 (cond (c && not (d && ltb y z)) 2 3)) ⌝ }
+{
+    if a & !((b & (w < x)) | ((c & (w < y)) | (d & (w < z)))) {
+        return 0;
+    }
+    if b & !((c & (x < y)) | (d & (x < z))) {
+        return 1;
+    }
+    if c & !(d & (y < z)) {
+        return 2;
+    }
+    3
+}
+
+// The beat of the READ bursts on clock n: of those that run, the one registered last. Most records find none that runs, and
+// the masks of two clocks before are looked up only where one does.
 pub fn reads_beat(last: Event, held: Masks, bs: [Burst; 4], n: Clock) -> Beat
     ensures { λ r. ⌜ r ≡ reads-beat bs (masks-on last held (two-before n)) n ⌝ }
 {
-    let a = bs[0];
-    let b = bs[1];
-    let c = bs[2];
-    let d = bs[3];
-    let runs_b = b.reads_on(n);
-    let runs_c = c.reads_on(n);
-    let runs_d = d.reads_on(n);
-    if a.reads_on(n)
-        & !(((a.start.0 < b.start.0) & runs_b)
-            | (((a.start.0 < c.start.0) & runs_c) | ((a.start.0 < d.start.0) & runs_d)))
-    {
-        let masks = masks_on(last, held, two_before(n));
-        return a.read_beat(masks, n);
+    let a = bs[0].reads_on(n);
+    let b = bs[1].reads_on(n);
+    let c = bs[2].reads_on(n);
+    let d = bs[3].reads_on(n);
+    if !(a | (b | (c | d))) {
+        return Beat::Quiet;
     }
-    if runs_b & !(((b.start.0 < c.start.0) & runs_c) | ((b.start.0 < d.start.0) & runs_d)) {
-        let masks = masks_on(last, held, two_before(n));
-        return b.read_beat(masks, n);
+    let i = latest(
+        a,
+        b,
+        c,
+        d,
+        bs[0].start.0,
+        bs[1].start.0,
+        bs[2].start.0,
+        bs[3].start.0,
+    );
+    let masks = masks_on(last, held, two_before(n));
+    if i == 0 {
+        return bs[0].read_beat(masks, n);
     }
-    if runs_c & !((c.start.0 < d.start.0) & runs_d) {
-        let masks = masks_on(last, held, two_before(n));
-        return c.read_beat(masks, n);
+    if i == 1 {
+        return bs[1].read_beat(masks, n);
     }
-    if runs_d {
-        let masks = masks_on(last, held, two_before(n));
-        return d.read_beat(masks, n);
+    if i == 2 {
+        return bs[2].read_beat(masks, n);
     }
-    Beat::Quiet
+    bs[3].read_beat(masks, n)
 }
 
 // Each burst as this command on clock n leaves it.
@@ -105,29 +121,30 @@ fn written_over(n: Clock, bs: [Burst; 4]) -> [Burst; 4]
     [a, b, c, d]
 }
 
-// A new READ on clock n, and the three of the others that stay: one with no beat to come makes room. In a trace that is the
-// fourth, the oldest; where each has beats to come, the one registered first makes room.
-fn with_new(n: Clock, new: Burst, a: Burst, b: Burst, c: Burst, d: Burst) -> [Burst; 4]
-    ensures { λ r. ⌜ r ≡ (new ∷ with-room n (a ∷ b ∷ c ∷ d ∷ [])) ⌝ }
+// Of two READs, the first makes room for a new one.
+fn makes_room(b: bool, d: bool, x: u64, y: u64) -> bool
+    ensures { λ r. ⌜ r ≡ makes-room b d x y ⌝ }
 {
-    if !d.to_come(n) {
-        return [new, a, b, c];
-    }
-    if a.gives_way(b, n) & (a.gives_way(c, n) & a.gives_way(d, n)) {
-        return [new, b, c, d];
-    }
-    if b.gives_way(c, n) & b.gives_way(d, n) {
-        return [new, a, c, d];
-    }
-    if c.gives_way(d, n) {
-        return [new, a, b, d];
-    }
-    [new, a, b, c]
+    d & (!b | (x < y))
 }
 
-// The bursts after command k of record r on clock n, in mode `word`, of the open row. After a WRITE none need be cut: the
-// READs before it are gone, and those that are not before it keep their beats. Most records end no burst, and then nothing
-// is walked.
+// Which of four READs makes room for a new one, where the fourth has beats to come: a, b and c say whether the others have,
+// the numbers are the clocks of their registration.
+fn room(a: bool, b: bool, c: bool, w: u64, x: u64, y: u64, z: u64) -> u8
+    ensures { λ r. ⌜ r ≡ cond (makes-room a b w x && (makes-room a c w y && makes-room a true w z)) 0 (cond (makes-room b c x y && makes-room b true x z) 1 (cond (makes-room c true y z) 2 3)) ⌝ }
+{
+    if makes_room(a, b, w, x) & (makes_room(a, c, w, y) & makes_room(a, true, w, z)) {
+        return 0;
+    }
+    if makes_room(b, c, x, y) & makes_room(b, true, x, z) {
+        return 1;
+    }
+    if makes_room(c, true, y, z) { 2 } else { 3 }
+}
+
+// The bursts after command k of record r on clock n, in mode `word`, of the open row. For a new READ one with no beat to come
+// makes room: in a trace the fourth, the oldest. Where all four have beats to come, the one registered first does. Most
+// records end no burst, and then nothing is walked.
 pub fn reads_after(
     k: Command,
     r: Record,
@@ -146,8 +163,29 @@ pub fn reads_after(
         let a = bs[0].cut_if(true, n);
         let b = bs[1].cut_if(true, n);
         let c = bs[2].cut_if(true, n);
-        let d = bs[3].cut_if(true, n);
-        return with_new(n, new, a, b, c, d);
+        if bs[3].to_come(n) {
+            let d = bs[3].cut_if(true, n);
+            let i = room(
+                bs[0].to_come(n),
+                bs[1].to_come(n),
+                bs[2].to_come(n),
+                bs[0].start.0,
+                bs[1].start.0,
+                bs[2].start.0,
+                bs[3].start.0,
+            );
+            if i == 0 {
+                return [new, b, c, d];
+            }
+            if i == 1 {
+                return [new, a, c, d];
+            }
+            if i == 2 {
+                return [new, a, b, d];
+            }
+            return [new, a, b, c];
+        }
+        return [new, a, b, c];
     }
     if can_end(k) {
         return cut_each(k, r.addr, r.ba, n, bs);
@@ -164,15 +202,6 @@ impl Burst {
             return Burst::none();
         }
         self.cut_if(false, n)
-    }
-
-    // This READ makes room for a new one before READ d.
-    fn gives_way(self, d: Burst, n: Clock) -> bool
-        ensures { λ r. ⌜ r ≡ gives-way n self d ⌝ }
-    {
-        let stays = d.to_come(n);
-        let wanted = self.to_come(n);
-        stays & (!wanted | (self.start.0 < d.start.0))
     }
 
     // A READ's burst asks no auto precharge, or is finished on clock n. Number 19 ends at r + length, though beats run on

@@ -198,12 +198,13 @@ module _ (P : Burst → Type 0) (n : Clock) (none : P no-burst) (cut : (x : Bool
       → EachBurst P (bus-after k r n word row u)
   unfolding bus-after reads-from
   bus-keeps k r word row u new f =
-      let reads = cut-each-keeps k (r .addr) (r .ba) (u .reads) (f .reads) in
+      let cut-all = cut-each-keeps k (r .addr) (r .ba) in
       record {
         write = cond-keeps P (is k Write) _ _ new (cut (ends k (r .addr) (r .ba) (u .write .bank)) (u .write) (f .write));
         reads =
-            cond-keeps (Each P) (is k Write) _ _ (written-keeps (cut-each k (r .addr) (r .ba) n (u .reads)) reads)
-            (cond-keeps (Each P) (is k Read) _ _ (new, room-keeps (cut-each k (r .addr) (r .ba) n (u .reads)) reads) reads);
+            cond-keeps (Each P) (is k Write) _ _ (written-keeps (u .reads) (f .reads))
+            (cond-keeps (Each P) (is k Read) _ _ (new, cut-all (with-room n (u .reads)) (room-keeps (u .reads) (f .reads)))
+            (cut-all (u .reads) (f .reads)));
       }
 
 banks-each : (P : Bank → Type 0) (f : ℕ → Bank → Bank) → ((i : ℕ) (b : Bank) → P b → P (f i b)) → (i : ℕ) (bs : List Bank) → Each P bs

@@ -1,22 +1,22 @@
-use mathlib.Core.Path.{sym}
+use mathlib.Core.Path.{sym, _∙_}
 use borrow.Author.Tests.{not-true, not-false}
 use borrow.Author.Needs.{needs}
-use Rattle.bursts.proofs.HasBeat.{none-where-no-burst, none-ahead, since-registration}
-use Rattle.bursts.proofs.beats.before_cut.Reads as before-cut-reads
+use Rattle.bursts.proofs.HasBeat.{in-time-is-not-ahead, none-out-of-time, beat-in-time}
+use Rattle.bursts.proofs.Burst.in_time.Reads as in-time-reads
 use Rattle.bursts.proofs.Burst.has_beat.Statement.{statement}
 use Rattle.bursts.proofs.Burst.has_beat.Tie as tie
 
+in-time-requires : tie.Need-in-time-requires
+in-time-requires c κs = search needs
+
 returns : tie.Need-returns
-returns c = sym (none-where-no-burst _ _ _ _ (not-true _ (c .if1 .taken)))
+returns c = let a = c .before .before .args in sym (none-out-of-time (a .self) _ _ (a .n) (sym (c .before .in-time .ensures) ∙ not-true _ (c .if1 .taken)))
+
+sub-result : tie.Need-sub-result
+sub-result c = in-time-is-not-ahead (c .before .before .before .before .args .self) (c .before .before .before .before .args .n) (sym (c .before .before .before .in-time .ensures) ∙ not-false _ (c .before .before .if1 .left))
 
 returns-2 : tie.Need-returns-2
-returns-2 c = sym (none-ahead _ _ _ _ (c .if2 .taken))
-
-before-cut-requires : tie.Need-before-cut-requires
-before-cut-requires c κs = search needs
-
-returns-3 : tie.Need-returns-3
-returns-3 c = rw (c .before .before .before-cut .ensures) (sym (since-registration _ _ _ _ (not-false _ (c .before .before .before .before .before .before .before .if1 .left)) (c .before .before .before .if2 .left)))
+returns-2 c = let a = c .before .before .before .before .args in sym (beat-in-time (a .self) _ _ (a .n) (sym (c .before .before .before .in-time .ensures) ∙ not-false _ (c .before .before .if1 .left)))
 
 pub has-beat-spec : {M : Type 1} → statement M
-has-beat-spec = tie.close (tie.spec returns returns-2 before-cut-requires returns-3)
+has-beat-spec = tie.close (tie.spec in-time-requires returns sub-result returns-2)

@@ -1,8 +1,8 @@
-use borrow.Author.Tests.{not-true, lt-leb, le-leb}
+use mathlib.Core.Path.{sym, _∙_}
+use borrow.Author.Tests.{not-true, not-false, lt-leb}
 use borrow.Author.Needs.{needs}
-use Rattle.bursts.proofs.HasBeat.{reads-none, reads-none-when-cut}
-use Rattle.bursts.proofs.Burst.has_beat.Reads as has-beat-reads
-use Rattle.bursts.proofs.beats.before_cut.Reads as before-cut-reads
+use Rattle.bursts.proofs.HasBeat.{in-time-is-not-ahead, reads-none, reads-none-out-of-time, reads-in-time}
+use Rattle.bursts.proofs.Burst.in_time.Reads as in-time-reads
 use Rattle.mode.proofs.full_page.Reads as full-page-reads
 use Rattle.mode.proofs.latency.Reads as latency-reads
 use Rattle.mode.proofs.length_of.Reads as length-of-reads
@@ -21,11 +21,11 @@ cast-cl c = search needs
 returns-2 : tie.Need-returns-2
 returns-2 c = rw (← c .before .before .latency .ensures, lt-leb _ _ (c .if2 .taken))
 
-before-cut-requires : tie.Need-before-cut-requires
-before-cut-requires c κs = search needs
+in-time-requires : tie.Need-in-time-requires
+in-time-requires c κs = search needs
 
 returns-3 : tie.Need-returns-3
-returns-3 c = let a = c .before .before .before .before .before .before .before .before .before .args in reads-none-when-cut (a .self) (a .n) (rw (← c .before .before .before .before .before .before .latency .ensures, ← c .before .before-cut .ensures) (not-true _ (c .if3 .taken)))
+returns-3 c = let a = c .before .before .before .before .before .before .before .before .args in reads-none-out-of-time (a .self) (a .n) (rw (← c .before .before .before .before .before .latency .ensures, ← c .before .in-time .ensures) (not-true _ (c .if3 .taken)))
 
 length-of-requires : tie.Need-length-of-requires
 length-of-requires c κs = search needs
@@ -33,11 +33,14 @@ length-of-requires c κs = search needs
 full-page-requires : tie.Need-full-page-requires
 full-page-requires c κs = search needs
 
-has-beat-requires : tie.Need-has-beat-requires
-has-beat-requires c κs = search needs
+sub-result : tie.Need-sub-result
+sub-result c = let a = c .before .before .before .before .before .before .before .before .before .before .before .before .args in in-time-is-not-ahead (a .self) _ (sym (c .before .before .before .before .before .in-time .ensures) ∙ not-false _ (c .before .before .before .before .if3 .left))
+
+cast-result : tie.Need-cast-result
+cast-result c = search needs
 
 returns-4 : tie.Need-returns-4
-returns-4 c = rw (c .has-beat .ensures, c .before .full-page .ensures, c .before .before .length-of .ensures, ← c .before .before .before .before .before .before .before .before .before .latency .ensures, le-leb _ _ (c .before .before .before .before .before .before .before .if2 .left))
+returns-4 c = let a = c .before .before .before .before .before .before .before .before .before .before .before .before .args in rw (c .before .before .full-page .ensures, c .before .before .before .length-of .ensures, c .before .before .before .before .before .before .before .before .before .latency .ensures) (reads-in-time (a .self) (a .n) (rw (← c .before .before .before .before .before .before .before .before .before .latency .ensures) (c .before .before .before .before .before .before .before .if2 .left)) (rw (← c .before .before .before .before .before .before .before .before .before .latency .ensures, ← c .before .before .before .before .before .in-time .ensures) (not-false _ (c .before .before .before .before .if3 .left))))
 
 pub reads-on-spec : {M : Type 1} → statement M
 reads-on-spec =
@@ -47,9 +50,10 @@ reads-on-spec =
     latency-requires
     cast-cl
     returns-2
-    before-cut-requires
+    in-time-requires
     returns-3
     length-of-requires
     full-page-requires
-    has-beat-requires
+    sub-result
+    cast-result
     returns-4)

@@ -2,14 +2,16 @@ use mathlib.Core.Path.{_≡_, sym, _∙_}
 use lib.ListN.{length}
 use borrow.Author.Needs.{needs}
 use Rattle.bursts.proofs.Untouched.{reads-untouched}
-use Rattle.bursts.proofs.Four.{new-first, after-write, kept-otherwise}
+use Rattle.bursts.proofs.Four.{after-write, after-read, after-others}
+use Rattle.bursts.proofs.Room.{first-goes, second-goes, third-goes, fourth-goes, fourth-gives-way}
 use Rattle.bursts.proofs.reads.reads_after.Reads as reads
 use Rattle.bursts.proofs.Burst.at.Reads as at-reads
 use Rattle.bursts.proofs.Burst.cut_if.Reads as cut-if-reads
+use Rattle.bursts.proofs.Burst.to_come.Reads as to-come-reads
 use Rattle.bursts.proofs.cuts.is.Reads as is-reads
 use Rattle.bursts.proofs.reads.can_end.Reads as can-end-reads
 use Rattle.bursts.proofs.reads.cut_each.Reads as cut-each-reads
-use Rattle.bursts.proofs.reads.with_new.Reads as with-new-reads
+use Rattle.bursts.proofs.reads.room.Reads as room-reads
 use Rattle.bursts.proofs.reads.written_over.Reads as written-over-reads
 use Rattle.bursts.proofs.reads.reads_after.Statement.{statement}
 use Rattle.bursts.proofs.reads.reads_after.Tie as tie
@@ -47,20 +49,80 @@ array-copy-out-cut-if-3 c = search needs
 cut-if-requires-3 : tie.Need-cut-if-requires-3
 cut-if-requires-3 c κs = search needs
 
+array-copy-out-to-come : tie.Need-array-copy-out-to-come
+array-copy-out-to-come c = search needs
+
+to-come-requires : tie.Need-to-come-requires
+to-come-requires c κs = search needs
+
 array-copy-out-cut-if-4 : tie.Need-array-copy-out-cut-if-4
 array-copy-out-cut-if-4 c = search needs
 
 cut-if-requires-4 : tie.Need-cut-if-requires-4
 cut-if-requires-4 c κs = search needs
 
-with-new-requires : tie.Need-with-new-requires
-with-new-requires c κs = search needs
+array-copy-out-to-come-2 : tie.Need-array-copy-out-to-come-2
+array-copy-out-to-come-2 c = search needs
+
+to-come-requires-2 : tie.Need-to-come-requires-2
+to-come-requires-2 c κs = search needs
+
+array-copy-out-to-come-3 : tie.Need-array-copy-out-to-come-3
+array-copy-out-to-come-3 c = search needs
+
+to-come-requires-3 : tie.Need-to-come-requires-3
+to-come-requires-3 c κs = search needs
+
+array-copy-out-to-come-4 : tie.Need-array-copy-out-to-come-4
+array-copy-out-to-come-4 c = search needs
+
+to-come-requires-4 : tie.Need-to-come-requires-4
+to-come-requires-4 c κs = search needs
+
+element-copy-out-room : tie.Need-element-copy-out-room
+element-copy-out-room c = search needs
+
+element-copy-out-room-2 : tie.Need-element-copy-out-room-2
+element-copy-out-room-2 c = search needs
+
+element-copy-out-room-3 : tie.Need-element-copy-out-room-3
+element-copy-out-room-3 c = search needs
+
+element-copy-out-room-4 : tie.Need-element-copy-out-room-4
+element-copy-out-room-4 c = search needs
+
+room-requires : tie.Need-room-requires
+room-requires c κs = search needs
 
 returns-2 : tie.Need-returns-2
-returns-2 c = let s = c .before .before .before .before .before .before .before .before .before .before .before .before .before .before in
+returns-2 c = let s = c .before .before .before .before .before .before .before .before .before .before .before .before .before .before .before .before .before .before .before .before .before .before .before .before in
     let a = s .args in
     let h = s .good .1 .1 .1 .1 .1 .0 .1 .0 .1 in
-    rw (c .with-new .ensures, c .before .cut-if4 .ensures, c .before .before .before .cut-if3 .ensures, c .before .before .before .before .before .cut-if2 .ensures, c .before .before .before .before .before .before .before .cut-if .ensures, c .before .before .before .before .before .before .before .before .before .at .ensures) (new-first (a .t6) h (a .k) (a .r) (a .n) (a .word) (a .row) (sym (c .before .before .before .before .before .before .before .before .before .before .before .before .before .is .ensures) ∙ c .before .before .before .before .before .before .before .before .before .before .before .before .if1 .left) (sym (c .before .before .before .before .before .before .before .before .before .before .before .is2 .ensures) ∙ c .before .before .before .before .before .before .before .before .before .before .if2 .taken))
+    rw (c .before .before .before .before .before .before .before .before .cut-if4 .ensures, c .before .before .before .before .before .before .before .before .before .before .before .before .before .cut-if3 .ensures, c .before .before .before .before .before .before .before .before .before .before .before .before .before .before .before .cut-if2 .ensures, c .before .before .before .before .before .before .before .before .before .before .before .before .before .before .before .before .before .before .before .at .ensures) (after-read (a .k) (a .r) (a .n) (a .word) (a .row) (a .t6) (sym (c .before .before .before .before .before .before .before .before .before .before .before .before .before .before .before .before .before .before .before .before .before .before .before .is .ensures) ∙ c .before .before .before .before .before .before .before .before .before .before .before .before .before .before .before .before .before .before .before .before .before .before .if1 .left) (sym (c .before .before .before .before .before .before .before .before .before .before .before .before .before .before .before .before .before .before .before .before .before .is2 .ensures) ∙ c .before .before .before .before .before .before .before .before .before .before .before .before .before .before .before .before .before .before .before .before .if2 .taken) _ _ _ (first-goes (a .n) (a .t6) h (c .before .before .before .before .before .before .to-come2 .result) (c .before .before .before .before .to-come3 .result) (c .before .before .to-come4 .result) (c .before .before .before .before .before .before .to-come2 .ensures) (c .before .before .before .before .to-come3 .ensures) (c .before .before .to-come4 .ensures) (sym (c .before .before .before .before .before .before .before .before .before .before .before .to-come .ensures) ∙ c .before .before .before .before .before .before .before .before .before .before .if3 .taken) _ (c .before .room .ensures) (c .if4 .taken)))
+
+returns-3 : tie.Need-returns-3
+returns-3 c = let s = c .before .before .before .before .before .before .before .before .before .before .before .before .before .before .before .before .before .before .before .before .before .before .before .before .before in
+    let a = s .args in
+    let h = s .good .1 .1 .1 .1 .1 .0 .1 .0 .1 in
+    rw (c .before .before .before .before .before .before .before .before .before .cut-if4 .ensures, c .before .before .before .before .before .before .before .before .before .before .before .before .before .before .cut-if3 .ensures, c .before .before .before .before .before .before .before .before .before .before .before .before .before .before .before .before .before .before .cut-if .ensures, c .before .before .before .before .before .before .before .before .before .before .before .before .before .before .before .before .before .before .before .before .at .ensures) (after-read (a .k) (a .r) (a .n) (a .word) (a .row) (a .t6) (sym (c .before .before .before .before .before .before .before .before .before .before .before .before .before .before .before .before .before .before .before .before .before .before .before .before .is .ensures) ∙ c .before .before .before .before .before .before .before .before .before .before .before .before .before .before .before .before .before .before .before .before .before .before .before .if1 .left) (sym (c .before .before .before .before .before .before .before .before .before .before .before .before .before .before .before .before .before .before .before .before .before .before .is2 .ensures) ∙ c .before .before .before .before .before .before .before .before .before .before .before .before .before .before .before .before .before .before .before .before .before .if2 .taken) _ _ _ (second-goes (a .n) (a .t6) h (c .before .before .before .before .before .before .before .to-come2 .result) (c .before .before .before .before .before .to-come3 .result) (c .before .before .before .to-come4 .result) (c .before .before .before .before .before .before .before .to-come2 .ensures) (c .before .before .before .before .before .to-come3 .ensures) (c .before .before .before .to-come4 .ensures) (sym (c .before .before .before .before .before .before .before .before .before .before .before .before .to-come .ensures) ∙ c .before .before .before .before .before .before .before .before .before .before .before .if3 .taken) _ (c .before .before .room .ensures) (c .before .if4 .left) (c .if5 .taken)))
+
+returns-4 : tie.Need-returns-4
+returns-4 c = let s = c .before .before .before .before .before .before .before .before .before .before .before .before .before .before .before .before .before .before .before .before .before .before .before .before .before .before in
+    let a = s .args in
+    let h = s .good .1 .1 .1 .1 .1 .0 .1 .0 .1 in
+    rw (c .before .before .before .before .before .before .before .before .before .before .cut-if4 .ensures, c .before .before .before .before .before .before .before .before .before .before .before .before .before .before .before .before .before .cut-if2 .ensures, c .before .before .before .before .before .before .before .before .before .before .before .before .before .before .before .before .before .before .before .cut-if .ensures, c .before .before .before .before .before .before .before .before .before .before .before .before .before .before .before .before .before .before .before .before .before .at .ensures) (after-read (a .k) (a .r) (a .n) (a .word) (a .row) (a .t6) (sym (c .before .before .before .before .before .before .before .before .before .before .before .before .before .before .before .before .before .before .before .before .before .before .before .before .before .is .ensures) ∙ c .before .before .before .before .before .before .before .before .before .before .before .before .before .before .before .before .before .before .before .before .before .before .before .before .if1 .left) (sym (c .before .before .before .before .before .before .before .before .before .before .before .before .before .before .before .before .before .before .before .before .before .before .before .is2 .ensures) ∙ c .before .before .before .before .before .before .before .before .before .before .before .before .before .before .before .before .before .before .before .before .before .before .if2 .taken) _ _ _ (third-goes (a .n) (a .t6) h (c .before .before .before .before .before .before .before .before .to-come2 .result) (c .before .before .before .before .before .before .to-come3 .result) (c .before .before .before .before .to-come4 .result) (c .before .before .before .before .before .before .before .before .to-come2 .ensures) (c .before .before .before .before .before .before .to-come3 .ensures) (c .before .before .before .before .to-come4 .ensures) (sym (c .before .before .before .before .before .before .before .before .before .before .before .before .before .to-come .ensures) ∙ c .before .before .before .before .before .before .before .before .before .before .before .before .if3 .taken) _ (c .before .before .before .room .ensures) (c .before .before .if4 .left) (c .before .if5 .left) (c .if6 .taken)))
+
+returns-5 : tie.Need-returns-5
+returns-5 c = let s = c .before .before .before .before .before .before .before .before .before .before .before .before .before .before .before .before .before .before .before .before .before .before .before .before .before .before in
+    let a = s .args in
+    let h = s .good .1 .1 .1 .1 .1 .0 .1 .0 .1 in
+    rw (c .before .before .before .before .before .before .before .before .before .before .before .before .before .before .before .cut-if3 .ensures, c .before .before .before .before .before .before .before .before .before .before .before .before .before .before .before .before .before .cut-if2 .ensures, c .before .before .before .before .before .before .before .before .before .before .before .before .before .before .before .before .before .before .before .cut-if .ensures, c .before .before .before .before .before .before .before .before .before .before .before .before .before .before .before .before .before .before .before .before .before .at .ensures) (after-read (a .k) (a .r) (a .n) (a .word) (a .row) (a .t6) (sym (c .before .before .before .before .before .before .before .before .before .before .before .before .before .before .before .before .before .before .before .before .before .before .before .before .before .is .ensures) ∙ c .before .before .before .before .before .before .before .before .before .before .before .before .before .before .before .before .before .before .before .before .before .before .before .before .if1 .left) (sym (c .before .before .before .before .before .before .before .before .before .before .before .before .before .before .before .before .before .before .before .before .before .before .before .is2 .ensures) ∙ c .before .before .before .before .before .before .before .before .before .before .before .before .before .before .before .before .before .before .before .before .before .before .if2 .taken) _ _ _ (fourth-goes (a .n) (a .t6) h (c .before .before .before .before .before .before .before .before .to-come2 .result) (c .before .before .before .before .before .before .to-come3 .result) (c .before .before .before .before .to-come4 .result) (c .before .before .before .before .before .before .before .before .to-come2 .ensures) (c .before .before .before .before .before .before .to-come3 .ensures) (c .before .before .before .before .to-come4 .ensures) (sym (c .before .before .before .before .before .before .before .before .before .before .before .before .before .to-come .ensures) ∙ c .before .before .before .before .before .before .before .before .before .before .before .before .if3 .taken) _ (c .before .before .before .room .ensures) (c .before .before .if4 .left) (c .before .if5 .left) (c .if6 .left)))
+
+returns-6 : tie.Need-returns-6
+returns-6 c = let s = c .before .before .before .before .before .before .before .before .before .before .before .before .before .before in
+    let a = s .args in
+    let h = s .good .1 .1 .1 .1 .1 .0 .1 .0 .1 in
+    rw (c .before .before .before .cut-if3 .ensures, c .before .before .before .before .before .cut-if2 .ensures, c .before .before .before .before .before .before .before .cut-if .ensures, c .before .before .before .before .before .before .before .before .before .at .ensures) (after-read (a .k) (a .r) (a .n) (a .word) (a .row) (a .t6) (sym (c .before .before .before .before .before .before .before .before .before .before .before .before .before .is .ensures) ∙ c .before .before .before .before .before .before .before .before .before .before .before .before .if1 .left) (sym (c .before .before .before .before .before .before .before .before .before .before .before .is2 .ensures) ∙ c .before .before .before .before .before .before .before .before .before .before .if2 .taken) _ _ _ (fourth-gives-way (a .n) (a .t6) h (sym (c .before .to-come .ensures) ∙ c .if3 .left)))
 
 can-end-requires : tie.Need-can-end-requires
 can-end-requires c κs = search needs
@@ -68,11 +130,11 @@ can-end-requires c κs = search needs
 cut-each-requires : tie.Need-cut-each-requires
 cut-each-requires c κs = search needs
 
-returns-3 : tie.Need-returns-3
-returns-3 c = rw (c .cut-each .ensures) (kept-otherwise _ _ _ _ (sym (c .before .before .before .before .before .before .is .ensures) ∙ c .before .before .before .before .before .if1 .left) (sym (c .before .before .before .before .is2 .ensures) ∙ c .before .before .before .if2 .left))
+returns-7 : tie.Need-returns-7
+returns-7 c = let a = c .before .before .before .before .before .before .before .args in rw (c .cut-each .ensures) (after-others (a .k) (a .r) (a .n) (a .word) (a .row) (a .t6) (sym (c .before .before .before .before .before .before .is .ensures) ∙ c .before .before .before .before .before .if1 .left) (sym (c .before .before .before .before .is2 .ensures) ∙ c .before .before .before .if2 .left))
 
-returns-4 : tie.Need-returns-4
-returns-4 c = let a = c .before .before .before .before .before .before .args in reads-untouched _ (sym (c .before .can-end .ensures) ∙ c .if3 .left) (a .r) (a .n) (a .word) (a .row) _
+returns-8 : tie.Need-returns-8
+returns-8 c = let a = c .before .before .before .before .before .before .args in reads-untouched _ (sym (c .before .can-end .ensures) ∙ c .if7 .left) (a .r) (a .n) (a .word) (a .row) _
 
 pub reads-after-spec : {M : Type 1} → statement M
 reads-after-spec =
@@ -89,11 +151,27 @@ reads-after-spec =
     cut-if-requires-2
     array-copy-out-cut-if-3
     cut-if-requires-3
+    array-copy-out-to-come
+    to-come-requires
     array-copy-out-cut-if-4
     cut-if-requires-4
-    with-new-requires
+    array-copy-out-to-come-2
+    to-come-requires-2
+    array-copy-out-to-come-3
+    to-come-requires-3
+    array-copy-out-to-come-4
+    to-come-requires-4
+    element-copy-out-room
+    element-copy-out-room-2
+    element-copy-out-room-3
+    element-copy-out-room-4
+    room-requires
     returns-2
+    returns-3
+    returns-4
+    returns-5
+    returns-6
     can-end-requires
     cut-each-requires
-    returns-3
-    returns-4)
+    returns-7
+    returns-8)
