@@ -1,3 +1,4 @@
+-- `hawsehole::whole_verdict` meets its contract: its rows one by one. Assumes nothing.
 use borrow.Author.Tests.{eq-eqb, ne-eqb}
 use borrow.Author.Needs.{needs}
 use Rattle.hawsehole.specs.Trace.{whole-rules}

@@ -1,3 +1,4 @@
+-- `asking::since::short_after` meets its contract: no event, or one that is held against clock n. Assumes nothing.
 use native.Mathlib.Omega.{arith}
 use borrow.Author.Needs.{needs}
 use Rattle.asking.specs.Shorts.{short-after}

@@ -1,3 +1,4 @@
+-- `asking::since::short_stored` meets its contract: a bank by its status. Assumes nothing.
 use borrow.Author.Needs.{needs}
 use Rattle.asking.specs.Shorts.{short-stored}
 use Rattle.asking.proofs.since.short_after.Reads as short-after-reads

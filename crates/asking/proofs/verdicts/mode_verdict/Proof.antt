@@ -1,3 +1,4 @@
+-- `asking::verdicts::mode_verdict` meets its contract: a reserved word, a bank address, and the period by its latency. Assumes nothing.
 use mathlib.Core.Bool.{cond}
 use mathlib.Core.Path.{sym, ap, _∙_}
 use lib.Dec.{eqb}

@@ -1,3 +1,4 @@
+-- `bursts::Burst::cut_if` meets its contract: its cut by `cut_on`, and all else stays. Assumes nothing.
 use borrow.Author.Needs.{needs}
 use Rattle.bursts.proofs.cuts.cut_on.Reads as cut-on-reads
 use Rattle.bursts.proofs.Burst.cut_if.Statement.{statement}

@@ -1,3 +1,4 @@
+-- `bursts::Burst::has_beat` meets its contract: out of time, or in time by what has gone by since its registration. Assumes nothing.
 use mathlib.Core.Path.{sym, _∙_}
 use borrow.Author.Tests.{not-true, not-false}
 use borrow.Author.Needs.{needs}

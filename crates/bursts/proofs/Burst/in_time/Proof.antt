@@ -1,3 +1,4 @@
+-- `bursts::Burst::in_time` meets its contract: no burst, one ahead, and one that is cut or not. Assumes nothing.
 use borrow.Author.Tests.{not-true, not-false}
 use borrow.Author.Needs.{needs}
 use Rattle.bursts.proofs.HasBeat.{no-burst-in-time, ahead-not-in-time, in-time-unless-cut}

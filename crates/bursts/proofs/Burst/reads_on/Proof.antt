@@ -1,3 +1,4 @@
+-- `bursts::Burst::reads_on` meets its contract: no burst, a clock before CL, a fetch out of time, and one in time. Assumes nothing.
 use mathlib.Core.Path.{sym, _∙_}
 use borrow.Author.Tests.{not-true, not-false, lt-leb}
 use borrow.Author.Needs.{needs}

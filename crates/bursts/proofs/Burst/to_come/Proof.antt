@@ -1,3 +1,4 @@
+-- `bursts::Burst::to_come` meets its contract: no burst, and else the first fetch that is seen on clock n or later. Assumes nothing.
 use mathlib.Core.Path.{sym}
 use borrow.Author.Tests.{not-true}
 use borrow.Author.Needs.{needs}

@@ -1,3 +1,4 @@
+-- `bursts::Burst::unless_before` meets its contract: registered before clock n, or not. Assumes nothing.
 use borrow.Author.Tests.{lt-ltb, le-ltb}
 use borrow.Author.Needs.{needs}
 use Rattle.bursts.proofs.Burst.cut_if.Reads as cut-if-reads

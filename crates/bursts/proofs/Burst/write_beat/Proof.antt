@@ -1,3 +1,4 @@
+-- `bursts::Burst::write_beat` meets its contract: out of time, or in time with a beat or past its length. Assumes nothing.
 use mathlib.Core.Path.{sym, _∙_}
 use borrow.Author.Tests.{not-true, not-false}
 use borrow.Author.Needs.{needs}

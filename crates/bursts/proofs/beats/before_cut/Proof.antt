@@ -1,3 +1,4 @@
+-- `bursts::beats::before_cut` meets its contract: each kind of event by its case. Assumes nothing.
 use borrow.Author.Needs.{needs}
 use Rattle.bursts.proofs.beats.before_cut.Statement.{statement}
 use Rattle.bursts.proofs.beats.before_cut.Tie as tie

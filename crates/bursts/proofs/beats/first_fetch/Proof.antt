@@ -1,3 +1,4 @@
+-- `bursts::beats::first_fetch` meets its contract: the larger of two clocks. Assumes nothing.
 use native.Mathlib.Omega.{arith}
 use mathlib.Core.Path.{ap}
 use Rattle.units.specs.Time.{clock}

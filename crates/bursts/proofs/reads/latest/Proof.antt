@@ -1,3 +1,4 @@
+-- `bursts::reads::latest` meets its contract: the first of its three tests that holds. Assumes nothing.
 use Rattle.bursts.proofs.reads.latest.Reads as reads
 use Rattle.bursts.proofs.reads.latest.Statement.{statement}
 use Rattle.bursts.proofs.reads.latest.Tie as tie

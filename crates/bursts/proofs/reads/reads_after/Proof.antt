@@ -1,3 +1,4 @@
+-- `bursts::reads::reads_after` meets its contract: a WRITE, a READ by which of the four makes room, another command that can end a burst, and one that can end none. Assumes nothing.
 use mathlib.Core.Path.{_≡_, sym, _∙_}
 use lib.ListN.{length}
 use borrow.Author.Needs.{needs}

@@ -1,3 +1,4 @@
+-- `bursts::reads::reads_beat` meets its contract: none of the four runs, or the one registered last of those that do. Assumes nothing.
 use mathlib.Core.Path.{_≡_}
 use lib.ListN.{length}
 use borrow.Author.Tests.{not-true, not-false}

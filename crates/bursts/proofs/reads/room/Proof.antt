@@ -1,3 +1,4 @@
+-- `bursts::reads::room` meets its contract: the first of its three tests that holds. Assumes nothing.
 use borrow.Author.Needs.{needs}
 use Rattle.bursts.proofs.reads.room.Reads as reads
 use Rattle.bursts.proofs.reads.makes_room.Reads as makes-room-reads

@@ -1,3 +1,4 @@
+-- `bursts::reads::written_over` meets its contract: the four one by one. Assumes nothing.
 use mathlib.Core.Path.{_≡_}
 use lib.ListN.{length}
 use borrow.Author.Needs.{needs}

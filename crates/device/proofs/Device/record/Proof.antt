@@ -1,3 +1,4 @@
+-- `device::Device::record` meets its contract: bytes that are no record, a state or page that is refused, and the turn. Assumes nothing.
 use mathlib.Core.Path.{sym, ap, _∙_}
 use borrow.Author.Needs.{needs}
 use Rattle.units.specs.declared.Module.{Module}

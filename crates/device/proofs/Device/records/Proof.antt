@@ -1,3 +1,4 @@
+-- `device::Device::records` meets its contract: refused before the first record, all judged, or some and then 25. Assumes nothing.
 use Prim.Native.Nat.{ℕ, _-_, _≤_, _*_, _/_}
 use native.Mathlib.Omega.{arith}
 use mathlib.Core.Path.{_≡_, ap, sym, subst, _∙_}

@@ -1,3 +1,4 @@
+-- `device::many::above_max` meets its contract: a refusal stays, and a clean answer becomes 25. Assumes nothing.
 use borrow.Author.Needs.{needs}
 use Rattle.device.proofs.many.ended.Reads as ended-reads
 use Rattle.rules.proofs.Verdict.refused.Reads as refused-reads

@@ -1,3 +1,4 @@
+-- `device::many::before_max` meets its contract: all of the records, or as many as there is room for. Assumes nothing.
 use borrow.Author.Tests.{le-leb, lt-leb}
 use borrow.Author.Needs.{needs}
 use Rattle.device.proofs.many.before_max.Statement.{statement}

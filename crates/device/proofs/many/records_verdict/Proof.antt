@@ -1,3 +1,4 @@
+-- `device::many::records_verdict` meets its contract: no whole records, or what the state and the page are asked. Assumes nothing.
 use borrow.Author.Tests.{eq-eqb, ne-eqb}
 use borrow.Author.Needs.{needs}
 use Rattle.device.proofs.Starts.{records-ladder, records-wrong}
