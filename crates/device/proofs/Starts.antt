@@ -8,7 +8,7 @@ use mathlib.Core.List.{List, [], _∷_}
 use lib.Dec.{leb, eqb}
 use lib.ListN.{length, take, drop}
 use lib.Seq.{take-take}
-use borrow.Author.Tests.{leb-true, leb-false, eqb-true}
+use borrow.Author.Tests.{le-leb, lt-leb, leb-true, leb-false, eqb-true}
 use Rattle.units.specs.declared.Module.{Module}
 use Rattle.speed.proofs.Bounds.{bounds}
 use Rattle.layout.specs.Bytes.{record-of, records-of}
@@ -38,6 +38,12 @@ records-wrong u s bytes lent h = rw h
 -- so many of the records, those whose numbers are not above 2^41
 abbrev pub at-most : ℕ → ℕ → ℕ
 at-most count most = cond (leb count most) count most
+
+pub at-most-all : (count most : ℕ) → count ≤ most → count ≡ at-most count most
+at-most-all count most h = rw (le-leb count most h)
+
+pub at-most-room : (count most : ℕ) → most < count → most ≡ at-most count most
+at-most-room count most h = rw (lt-leb count most h)
 
 pub most-fits : (count number : ℕ) → number ≤ number-max → number + at-most count (suc number-max - number) ≤ suc number-max
 most-fits count number h = go (leb count (suc number-max - number)) refl
