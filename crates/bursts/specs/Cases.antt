@@ -1,4 +1,5 @@
--- Bursts and the bus one sentence at a time: rows from the sentences of document 01's Beats, under one statement. Assumes nothing.
+-- Bursts and the bus one sentence at a time: rows from the sentences of document 01's Beats, under one statement. Words in quotation
+-- marks are 01's, or those of reading 13 in docs/DECISIONS.md. Assumes nothing.
 use Prim.Native.Nat.{ℕ, zero, suc, _+_}
 use mathlib.Core.Path.{_≡_, refl}
 use mathlib.Core.Bool.{Bool, true, false}
