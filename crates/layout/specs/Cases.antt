@@ -50,7 +50,9 @@ use Rattle.layout.specs.Bytes.{
   header-from,
   record-from,
   read-header,
+  header-number,
   read-record,
+  record-number,
   records-of,
 }
 
@@ -458,3 +460,15 @@ cases =
 pub cases-right : T (all-true cases)
 unfolding record-from has-pins lane-masks column-on
 cases-right = tt
+
+-- this paper's number of each answer: "under 16 bytes" and "a record not 16 bytes long" are 1
+pub numbers-right :
+    (header-number (read-header (replicate 15 0))
+    ∷ header-number (read-header (replicate 16 0))
+    ∷ record-number (read-record Bench (replicate 15 0))
+    ∷ record-number (read-record Bench (replicate 16 0))
+    ∷ record-number (read-record Bench (replicate 17 0))
+    ∷ [])
+    ≡ (1 ∷ 0 ∷ 1 ∷ 0 ∷ 1 ∷ [])
+unfolding read-header read-record
+numbers-right = refl

@@ -17,6 +17,7 @@ use Rattle.mode.specs.Word.{
   single,
   legal,
   decoded,
+  decoded-number,
   write-length,
   write-endless,
 }
@@ -210,3 +211,7 @@ legal-words = refl
 -- without full page
 pub handheld-words : count-legal Handheld 8192 ≡ 32
 handheld-words = refl
+
+-- this paper's number of what decoding answers: "All else is 17"
+pub numbers-right : (decoded-number (decoded Bench 0x31) ∷ decoded-number (decoded Bench 0x34) ∷ []) ≡ (0 ∷ 17 ∷ [])
+numbers-right = refl
