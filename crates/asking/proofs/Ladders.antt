@@ -36,7 +36,7 @@ use Rattle.rules.specs.Closing.{burst-end, ends-by-itself, closes-within}
 use Rattle.rules.specs.StartUp.{begun, two-done, last-load, power-up, allowed}
 use Rattle.rules.specs.Banks.{bank-at, is-open, is-closed, closed, every, banks-found}
 use Rattle.rules.specs.Minima.{only, of-any, of-active, of-access, of-precharge, of-idle, events, minima}
-use Rattle.rules.specs.Rules.{tCK, asks-auto, place-rules, minimum-rules, mode-rules, bus-rules, command-rules}
+use Rattle.rules.specs.Rules.{tCK, asks-auto, place-rules, minimum-rules, mode-rules, bus-rules, command-rules, found}
 use Rattle.asking.specs.Shorts.{shorts, either, lowest}
 use Rattle.asking.specs.Answers.{auto-answer}
 use Rattle.asking.proofs.Lowest.{minimum-lowest}
@@ -74,25 +74,32 @@ pub implied : (a b : Bool) → (a ⇒ b) ≡ (not a || b)
 implied true b = refl
 implied false b = refl
 
+-- rows 19 to 22 in a state with this core
+abbrev bus-rules-of : Command → SpeedTable → Core → Status → Record → Clock → List Rule
+bus-rules-of k t c status r n =
+    bus-rules k t (c .period) (word c) (bursts-finished (c .bus .write) (c .bus .reads) n) (bus-clear (c .last) (c .bus .masks) (c .bus .reads) n)
+    status r n
+
 -- rows 14 and 15 as two tests before the rest
 ladder : (k : Command) (t : SpeedTable) (c : Core) (bs : List Bank) (r : Record) (n : Clock) (now : Ps)
-    → first-broken (command-rules k t c bs r n now)
+    → first-broken (command-rules k t (core-module c) (c .period) (found c bs n) r n now)
     ≡ cond (allowed k r now (c .startup))
     (cond (banks-found k (r .ba) bs)
     (then (lowest (shorts t (c .period) now (minima k (c .period) (c .startup) r bs)))
-    (then (first-broken (mode-rules k t (core-module c) (c .period) r)) (first-broken (bus-rules k t c (bank-at bs (r .ba) .status) r n))))
+    (then (first-broken (mode-rules k t (core-module c) (c .period) r)) (first-broken (bus-rules-of k t c (bank-at bs (r .ba) .status) r n))))
     (Refused 15 0))
     (Refused 14 0)
 unfolding command-rules place-rules
 ladder k t c bs r n now =
     two-rows (allowed k r now (c .startup)) (banks-found k (r .ba) bs)
     (minimum-rules t (c .period) now (minima k (c .period) (c .startup) r bs)
-    ++ (mode-rules k t (core-module c) (c .period) r ++ bus-rules k t c (bank-at bs (r .ba) .status) r n))
+    ++ (mode-rules k t (core-module c) (c .period) r ++ bus-rules-of k t c (bank-at bs (r .ba) .status) r n))
     ∙ ap (λ (v : Verdict). cond (allowed k r now (c .startup)) (cond (banks-found k (r .ba) bs) v (Refused 15 0)) (Refused 14 0))
     (joined (minimum-rules t (c .period) now (minima k (c .period) (c .startup) r bs)) (mode-rules k t (core-module c) (c .period) r)
-    (bus-rules k t c (bank-at bs (r .ba) .status) r n)
+    (bus-rules-of k t c (bank-at bs (r .ba) .status) r n)
     ∙ ap
-    (λ (v : Verdict). then v (then (first-broken (mode-rules k t (core-module c) (c .period) r)) (first-broken (bus-rules k t c (bank-at bs (r .ba) .status) r n))))
+    (λ (v : Verdict). then v
+    (then (first-broken (mode-rules k t (core-module c) (c .period) r)) (first-broken (bus-rules-of k t c (bank-at bs (r .ba) .status) r n))))
     (minimum-lowest t (c .period) now (minima k (c .period) (c .startup) r bs)))
 
 -- rows 19 to 22 as tests
@@ -108,7 +115,7 @@ four-rows false b x p q = refl
 
 -- 19 to 22 of WRITE, READ and BURST TERMINATE
 pub bus-ladder : (k : Command) → (access k || is k Terminate) ≡ true → (t : SpeedTable) (c : Core) (status : Status) (r : Record) (n : Clock)
-    → first-broken (bus-rules k t c status r n)
+    → first-broken (bus-rules-of k t c status r n)
     ≡ cond (bursts-finished (c .bus .write) (c .bus .reads) n)
     (cond (is k Write ⇒ bus-clear (c .last) (c .bus .masks) (c .bus .reads) n) (cond (asks-auto k r) (auto-answer k t c status n) Taken) (Refused 20 0))
     (Refused 19 0)
@@ -137,7 +144,8 @@ started u = two-done (u .refreshes) && occurred (last-load (u .register))
 
 module _ (t : SpeedTable) (c : Core) (bs : List Bank) (r : Record) (n : Clock) (now : Ps) where
   pub unbegun : (k : Command) → begun (c .startup) ≡ false
-      → first-broken (command-rules k t c bs r n now) ≡ cond (precharge-all k r && by power-up now) Taken (Refused 14 0)
+      → first-broken (command-rules k t (core-module c) (c .period) (found c bs n) r n now)
+      ≡ cond (precharge-all k r && by power-up now) Taken (Refused 14 0)
   unfolding allowed banks-found minima mode-rules bus-rules lowest shorts
   unbegun k h = ladder k t c bs r n now ∙ go k
     where
@@ -145,7 +153,7 @@ module _ (t : SpeedTable) (c : Core) (bs : List Bank) (r : Record) (n : Clock) (
           → cond (allowed k r now (c .startup))
           (cond (banks-found k (r .ba) bs)
           (then (lowest (shorts t (c .period) now (minima k (c .period) (c .startup) r bs)))
-          (then (first-broken (mode-rules k t (core-module c) (c .period) r)) (first-broken (bus-rules k t c (bank-at bs (r .ba) .status) r n))))
+          (then (first-broken (mode-rules k t (core-module c) (c .period) r)) (first-broken (bus-rules-of k t c (bank-at bs (r .ba) .status) r n))))
           (Refused 15 0))
           (Refused 14 0)
           ≡ cond (precharge-all k r && by power-up now) Taken (Refused 14 0)
@@ -175,7 +183,7 @@ module _ (t : SpeedTable) (c : Core) (bs : List Bank) (r : Record) (n : Clock) (
       (then
       (lowest
       (either (shorts t (c .period) now (of-any (c .period) (c .startup))) (shorts t (c .period) now (only (access k) (of-access (c .period) (bank-at bs (r .ba)))))))
-      (first-broken (bus-rules k t c (bank-at bs (r .ba) .status) r n)))
+      (first-broken (bus-rules-of k t c (bank-at bs (r .ba) .status) r n)))
       (Refused 15 0)
 
   module _ (b : begun (c .startup) ≡ true) where
@@ -183,7 +191,7 @@ module _ (t : SpeedTable) (c : Core) (bs : List Bank) (r : Record) (n : Clock) (
     unfolding minima
     minima-begun k = rw b
 
-    begun-active : first-broken (command-rules Active t c bs r n now)
+    begun-active : first-broken (command-rules Active t (core-module c) (c .period) (found c bs n) r n now)
         ≡ cond (started (c .startup))
         active-answer
         (Refused 14 0)
@@ -191,7 +199,7 @@ module _ (t : SpeedTable) (c : Core) (bs : List Bank) (r : Record) (n : Clock) (
     begun-active = rw (ladder Active t c bs r n now, minima-begun Active, events-active, then-taken, b, and-true, and-true)
 
     begun-burst : (k : Command) → (access k || is k Terminate) ≡ true
-        → first-broken (command-rules k t c bs r n now)
+        → first-broken (command-rules k t (core-module c) (c .period) (found c bs n) r n now)
         ≡ cond (started (c .startup))
         (burst-answer k)
         (Refused 14 0)
@@ -206,19 +214,19 @@ module _ (t : SpeedTable) (c : Core) (bs : List Bank) (r : Record) (n : Clock) (
     begun-burst Refresh h = absurd (true≢false (sym h))
     begun-burst LoadMode h = absurd (true≢false (sym h))
 
-    pub precharge-ladder : first-broken (command-rules Precharge t c bs r n now)
+    pub precharge-ladder : first-broken (command-rules Precharge t (core-module c) (c .period) (found c bs n) r n now)
         ≡ lowest (either (shorts t (c .period) now (of-any (c .period) (c .startup))) (shorts t (c .period) now (of-precharge (c .period) r bs)))
     unfolding allowed banks-found mode-rules bus-rules
     precharge-ladder = rw (ladder Precharge t c bs r n now, minima-begun Precharge, events-precharge, then-taken, b)
 
-    pub refresh-ladder : first-broken (command-rules Refresh t c bs r n now)
+    pub refresh-ladder : first-broken (command-rules Refresh t (core-module c) (c .period) (found c bs n) r n now)
         ≡ cond (every closed bs)
         (lowest (either (shorts t (c .period) now (of-any (c .period) (c .startup))) (shorts t (c .period) now (of-idle bs))))
         (Refused 15 0)
     unfolding allowed banks-found mode-rules bus-rules
     refresh-ladder = rw (ladder Refresh t c bs r n now, minima-begun Refresh, events-refresh, then-taken, b)
 
-    pub load-ladder : first-broken (command-rules LoadMode t c bs r n now)
+    pub load-ladder : first-broken (command-rules LoadMode t (core-module c) (c .period) (found c bs n) r n now)
         ≡ cond (two-done (c .startup .refreshes))
         (cond (every closed bs)
         (then (lowest (either (shorts t (c .period) now (of-any (c .period) (c .startup))) (shorts t (c .period) now (of-idle bs))))
@@ -230,14 +238,14 @@ module _ (t : SpeedTable) (c : Core) (bs : List Bank) (r : Record) (n : Clock) (
 
   -- ── ACTIVE, before it or after ──
 
-  pub active-ladder : first-broken (command-rules Active t c bs r n now)
+  pub active-ladder : first-broken (command-rules Active t (core-module c) (c .period) (found c bs n) r n now)
       ≡ cond (begun (c .startup) && started (c .startup))
       active-answer
       (Refused 14 0)
   active-ladder = go (begun (c .startup)) refl
     where
       go : (x : Bool) → begun (c .startup) ≡ x
-          → first-broken (command-rules Active t c bs r n now)
+          → first-broken (command-rules Active t (core-module c) (c .period) (found c bs n) r n now)
           ≡ cond (begun (c .startup) && started (c .startup))
           active-answer
           (Refused 14 0)
@@ -247,7 +255,7 @@ module _ (t : SpeedTable) (c : Core) (bs : List Bank) (r : Record) (n : Clock) (
   -- ── WRITE, READ and BURST TERMINATE, before it or after ──
 
   pub burst-ladder : (k : Command) → (access k || is k Terminate) ≡ true
-      → first-broken (command-rules k t c bs r n now)
+      → first-broken (command-rules k t (core-module c) (c .period) (found c bs n) r n now)
       ≡ cond (begun (c .startup) && started (c .startup))
       (burst-answer k)
       (Refused 14 0)
@@ -265,7 +273,7 @@ module _ (t : SpeedTable) (c : Core) (bs : List Bank) (r : Record) (n : Clock) (
       no-precharge LoadMode h = absurd (true≢false (sym h))
 
       go : (x : Bool) → begun (c .startup) ≡ x
-          → first-broken (command-rules k t c bs r n now)
+          → first-broken (command-rules k t (core-module c) (c .period) (found c bs n) r n now)
           ≡ cond (begun (c .startup) && started (c .startup))
           (burst-answer k)
           (Refused 14 0)

@@ -3,5 +3,4 @@ pub mod Events
 pub mod Ladders
 pub mod Moment
 pub mod Codes
-pub mod Asked
 pub mod Spans

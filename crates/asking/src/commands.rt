@@ -7,10 +7,11 @@ ghost use Rattle.layout.specs.Commands.{code-of};
 ghost use Prim.Native.Nat.{_≤_, _<_};
 ghost use Rattle.layout.specs.declared.Command.the-variants as Command;
 ghost use Rattle.rules.specs.Numbers.{first-broken};
+ghost use Rattle.rules.specs.Parts.{core-module};
 ghost use Rattle.parts.specs.Reach.{Call};
 ghost use Rattle.rules.specs.StartUp.{begun};
 ghost use Rattle.rules.specs.Banks.{bank-at};
-ghost use Rattle.rules.specs.Rules.{clock-max, command-rules};
+ghost use Rattle.rules.specs.Rules.{clock-max, command-rules, found};
 use crate::minima;
 use crate::verdicts;
 use layout::Command;
@@ -30,7 +31,7 @@ const POWER_UP: u64 = 100_000_000;
 
 fn ask_precharge(t: SpeedTable, c: Core, all: [Bank; 4], r: Record, n: Clock, now: Ps) -> Verdict
     requires { ⌜ Call t c all r × (begun (c .startup) ≡ true) ⌝ }
-    ensures { λ x. ⌜ x ≡ first-broken (command-rules Command.Precharge t c all r n now) ⌝ }
+    ensures { λ x. ⌜ x ≡ first-broken (command-rules Command.Precharge t (core-module c) (c .period) (found c all n) r n now) ⌝ }
 {
     let startup = c.startup;
     let any = minima::any_shorts(t, c.period, startup, now);
@@ -40,7 +41,7 @@ fn ask_precharge(t: SpeedTable, c: Core, all: [Bank; 4], r: Record, n: Clock, no
 
 fn ask_refresh(t: SpeedTable, c: Core, all: [Bank; 4], r: Record, n: Clock, now: Ps) -> Verdict
     requires { ⌜ Call t c all r × (begun (c .startup) ≡ true) ⌝ }
-    ensures { λ x. ⌜ x ≡ first-broken (command-rules Command.Refresh t c all r n now) ⌝ }
+    ensures { λ x. ⌜ x ≡ first-broken (command-rules Command.Refresh t (core-module c) (c .period) (found c all n) r n now) ⌝ }
 {
     if banks::all_closed(all) {
         let startup = c.startup;
@@ -53,7 +54,7 @@ fn ask_refresh(t: SpeedTable, c: Core, all: [Bank; 4], r: Record, n: Clock, now:
 
 fn ask_load_mode(t: SpeedTable, c: Core, all: [Bank; 4], r: Record, n: Clock, now: Ps) -> Verdict
     requires { ⌜ Call t c all r × (begun (c .startup) ≡ true) ⌝ }
-    ensures { λ x. ⌜ x ≡ first-broken (command-rules Command.LoadMode t c all r n now) ⌝ }
+    ensures { λ x. ⌜ x ≡ first-broken (command-rules Command.LoadMode t (core-module c) (c .period) (found c all n) r n now) ⌝ }
 {
     let startup = c.startup;
     let refreshes = startup.refreshes;
@@ -84,7 +85,7 @@ fn ask_begun(
     now: Ps,
 ) -> Verdict
     requires { ⌜ Call t c all r × (begun (c .startup) ≡ true) × (code-of k < 3) ⌝ }
-    ensures { λ x. ⌜ x ≡ first-broken (command-rules k t c all r n now) ⌝ }
+    ensures { λ x. ⌜ x ≡ first-broken (command-rules k t (core-module c) (c .period) (found c all n) r n now) ⌝ }
 {
     let code = layout::code_of(k);
     if code == 2 {
@@ -107,7 +108,7 @@ fn ask_first(
     now: Ps,
 ) -> Verdict
     requires { ⌜ begun (c .startup) ≡ false ⌝ }
-    ensures { λ x. ⌜ x ≡ first-broken (command-rules k t c all r n now) ⌝ }
+    ensures { λ x. ⌜ x ≡ first-broken (command-rules k t (core-module c) (c .period) (found c all n) r n now) ⌝ }
 {
     let every = layout::a10(r.addr);
     if (layout::code_of(k) == 2) & every & (POWER_UP <= now.0) {
@@ -127,7 +128,7 @@ pub fn ask_banks(
     now: Ps,
 ) -> Verdict
     requires { ⌜ Call t c all r × (code-of k < 3) ⌝ }
-    ensures { λ x. ⌜ x ≡ first-broken (command-rules k t c all r n now) ⌝ }
+    ensures { λ x. ⌜ x ≡ first-broken (command-rules k t (core-module c) (c .period) (found c all n) r n now) ⌝ }
 {
     let startup = c.startup;
     if steps::begun(startup) {
@@ -147,7 +148,7 @@ pub fn ask_active(
     now: Ps,
 ) -> Verdict
     requires { ⌜ Call t c all r × (own ≡ bank-at all (r .ba)) ⌝ }
-    ensures { λ x. ⌜ x ≡ first-broken (command-rules Command.Active t c all r n now) ⌝ }
+    ensures { λ x. ⌜ x ≡ first-broken (command-rules Command.Active t (core-module c) (c .period) (found c all n) r n now) ⌝ }
 {
     let startup = c.startup;
     if steps::begun(startup) {
@@ -176,7 +177,7 @@ pub fn ask_burst(
     now: Ps,
 ) -> Verdict
     requires { ⌜ Call t c all r × (own ≡ bank-at all (r .ba)) × (3 < code-of k) × (code-of k < 7) × (n .0 ≤ clock-max) ⌝ }
-    ensures { λ x. ⌜ x ≡ first-broken (command-rules k t c all r n now) ⌝ }
+    ensures { λ x. ⌜ x ≡ first-broken (command-rules k t (core-module c) (c .period) (found c all n) r n now) ⌝ }
 {
     let startup = c.startup;
     let status = own.status;

@@ -4,10 +4,11 @@ ghost use mathlib.Core.Bool.{cond};
 ghost use lib.Dec.{eqb};
 ghost use Prim.Native.Nat.{_≤_, _<_};
 ghost use Rattle.layout.specs.Commands.{code-of, is};
-ghost use Rattle.bursts.specs.Bus.{bus-clear};
+ghost use Rattle.bursts.specs.Bus.{bursts-finished, bus-clear};
 ghost use Rattle.layout.specs.declared.Command.the-variants as Command;
 ghost use Rattle.speed.specs.Bounds.{Bounds};
 ghost use Rattle.rules.specs.Numbers.{first-broken, _⇒_};
+ghost use Rattle.rules.specs.Parts.{word};
 ghost use Rattle.parts.specs.Reach.{FitPeriod};
 ghost use Rattle.rules.specs.Admitted.{FitStatus};
 ghost use Rattle.rules.specs.Rules.{clock-max, mode-rules, bus-rules};
@@ -94,7 +95,8 @@ pub fn bus_verdict(
     n: Clock,
 ) -> Verdict
     requires { ⌜ Bounds t × FitPeriod (c .period) × FitStatus status × (n .0 ≤ clock-max) × (3 < code-of k) × (code-of k < 7) ⌝ }
-    ensures { λ x. ⌜ x ≡ first-broken (bus-rules k t c status r n) ⌝ }
+    ensures { λ x. ⌜ x ≡ first-broken (bus-rules k t (c .period) (word c) (bursts-finished (c .bus .write) (c .bus .reads) n)
+        (bus-clear (c .last) (c .bus .masks) (c .bus .reads) n) status r n) ⌝ }
 {
     let bus = c.bus;
     let write = bus.write;

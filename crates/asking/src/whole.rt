@@ -3,8 +3,9 @@ ghost use mathlib.Core.Path.{_≡_};
 ghost use Prim.Native.Nat.{_≤_};
 ghost use Rattle.layout.specs.Commands.{executable};
 ghost use Rattle.rules.specs.Numbers.{first-broken, asked};
+ghost use Rattle.rules.specs.Parts.{core-module};
 ghost use Rattle.parts.specs.Reach.{Call};
-ghost use Rattle.rules.specs.Rules.{clock-max, command-rules, rules};
+ghost use Rattle.rules.specs.Rules.{clock-max, command-rules, rules, found};
 use crate::commands;
 use crate::every;
 use layout::Command;
@@ -27,7 +28,7 @@ fn ask_command(
     now: Ps,
 ) -> Verdict
     requires { ⌜ Call t c all r × (n .0 ≤ clock-max) ⌝ }
-    ensures { λ x. ⌜ x ≡ first-broken (asked (executable k) (command-rules k t c all r n now)) ⌝ }
+    ensures { λ x. ⌜ x ≡ first-broken (asked (executable k) (command-rules k t (core-module c) (c .period) (found c all n) r n now)) ⌝ }
 {
     let code = layout::code_of(k);
     if code < 3 {
@@ -46,7 +47,7 @@ fn ask_command(
 // May record r stand on clock n, at time now?
 pub fn ask(t: SpeedTable, c: Core, all: [Bank; 4], r: Record, n: Clock, now: Ps) -> Verdict
     requires { ⌜ Call t c all r ⌝ }
-    ensures { λ x. ⌜ x ≡ first-broken (rules t c all r n now) ⌝ }
+    ensures { λ x. ⌜ x ≡ first-broken (rules t (core-module c) (c .period) (found c all n) r n now) ⌝ }
 {
     let startup = c.startup;
     let refreshes = startup.refreshes;

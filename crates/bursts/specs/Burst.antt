@@ -54,6 +54,7 @@ before-cut start n (On x) = not (ltb (start .0) (x .0) && leb (x .0) (n .0))
 abbrev pub cut-on : Clock → Clock → Event → Event
 cut-on start n cut = cond (ltb (start .0) (n .0) && before-cut start n cut) (On n) cut
 
+-- a burst, cut on clock n where f asks it and there is one
 abbrev pub cut-if : Bool → Clock → Burst → Burst
 cut-if f n b =
     record {
@@ -63,7 +64,7 @@ cut-if f n b =
       row = b .row;
       column = b .column;
       start = b .start;
-      cut = cond f (cut-on (b .start) n (b .cut)) (b .cut);
+      cut = cond (f && b .live) (cut-on (b .start) n (b .cut)) (b .cut);
       word = b .word;
     }
 

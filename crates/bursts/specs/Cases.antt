@@ -437,7 +437,10 @@ bursts =
     ∷ cut-if true (clock 102) (odd Never) gives odd (On (clock 102))
     ∷ cut-if false (clock 102) (odd Never) gives odd Never
     ∷ cut-if false (clock 102) (odd (On (clock 103))) gives odd (On (clock 103))
-    ∷ cut-if true (clock 102) (dead (odd Never)) gives dead (odd (On (clock 102)))
+    -- what is no burst is not cut, nor is its old cut moved
+    ∷ cut-if true (clock 102) (dead (odd Never)) gives dead (odd Never)
+    ∷ cut-if true (clock 102) (dead (odd (On (clock 104)))) gives dead (odd (On (clock 104)))
+    ∷ cut-by Precharge 1024 0 (clock 102) (dead (odd Never)) gives dead (odd Never)
     -- PRECHARGE of its bank, 3, of another, of all; the other commands
     ∷ cut-by Precharge 0 3 (clock 102) (odd Never) gives odd (On (clock 102))
     ∷ cut-by Precharge 0 0 (clock 102) (odd Never) gives odd Never
@@ -472,7 +475,7 @@ abbrev reads-left : List (Row (List Burst))
 reads-left =
     -- a command cuts each of them that it ends
     cut-each Terminate 0 2 (clock 102) (b100 ∷ b101 ∷ no-burst ∷ b103 ∷ [])
-    gives (cut-at 102 b100 ∷ cut-at 102 b101 ∷ cut-at 102 no-burst ∷ b103 ∷ [])
+    gives (cut-at 102 b100 ∷ cut-at 102 b101 ∷ no-burst ∷ b103 ∷ [])
     ∷ cut-each Precharge 0 2 (clock 102) (b100 ∷ odd Never ∷ []) gives (b100 ∷ odd Never ∷ [])
     ∷ cut-each Precharge 0 3 (clock 102) (b100 ∷ odd Never ∷ []) gives (b100 ∷ odd (On (clock 102)) ∷ [])
     ∷ cut-each Precharge 1024 0 (clock 102) (b100 ∷ odd Never ∷ []) gives (cut-at 102 b100 ∷ odd (On (clock 102)) ∷ [])
@@ -525,7 +528,7 @@ reads-left =
     gives (new ∷ cut-at 110 b103 ∷ cut-at 110 b102 ∷ cut-at 110 b101 ∷ [])
     -- one whose start is ahead of it, or on its clock, is not cut
     ∷ reads-after Read (rec 0 Read 5 0) (clock 110) 0x31 9 (eight 110 0 ∷ eight 111 0 ∷ no-burst ∷ no-burst ∷ [])
-    gives (new ∷ eight 110 0 ∷ eight 111 0 ∷ cut-at 110 no-burst ∷ [])
+    gives (new ∷ eight 110 0 ∷ eight 111 0 ∷ no-burst ∷ [])
     ∷ reads-after Write (rec 0 Write 5 0) (clock 110) 0x31 9 (eight 110 0 ∷ eight 111 0 ∷ b100 ∷ no-burst ∷ [])
     gives (eight 110 0 ∷ eight 111 0 ∷ no-burst ∷ no-burst ∷ [])
     ∷ []

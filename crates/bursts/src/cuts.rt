@@ -89,14 +89,15 @@ impl Burst {
         }
     }
 
-    // The burst, cut on clock n where that is asked. It is built anew where nothing is cut, too: a burst that is copied
-    // whole takes its unused bytes along, and the loop over the records would carry them from one to the next.
+    // The burst, cut on clock n where that is asked and there is one. It is built anew where nothing is cut, too: a burst
+    // that is copied whole takes its unused bytes along, and the loop over the records would carry them from one to the
+    // next.
     pub fn cut_if(self, f: bool, n: Clock) -> Burst
         ensures { λ r. ⌜ r ≡ cut-if f n self ⌝ }
     {
         let held = self.cut;
         let start = self.start;
-        let cut = cut_on(f, start, n, held);
+        let cut = cut_on(f & self.live, start, n, held);
         Burst {
             live: self.live,
             auto: self.auto,

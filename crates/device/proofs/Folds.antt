@@ -21,8 +21,8 @@ use Rattle.rules.specs.declared.Core.{Core}
 use Rattle.rules.specs.declared.Verdict.{Verdict}
 use Rattle.rules.specs.declared.Verdict.the-variants.{Taken, Refused}
 use Rattle.rules.specs.Numbers.{first-broken}
-use Rattle.rules.specs.Parts.{clock-of, state-module}
-use Rattle.rules.specs.Rules.{rules, ask}
+use Rattle.rules.specs.Parts.{clock-of, core-module, state-module}
+use Rattle.rules.specs.Rules.{rules, found, ask}
 use Rattle.rules.specs.After.{core-from, core-after, next, page-next}
 use Rattle.rules.specs.Run.{line}
 use Rattle.parts.specs.Reach.{Able, Call}
@@ -72,9 +72,11 @@ able-next u s count r a w o p =
 
 -- what asking gives by its parts is the record's verdict
 pub asked-as : (u : Setup) (s : State) (r : Record) {c : Core} {n : Clock} {v : Verdict} → c ≡ s .core → n ≡ clock-of (s .core) r
-    → v ≡ first-broken (rules (u .table) c (s .banks) r n (at (c .period) n)) → ask u s r ≡ v
+    → v ≡ first-broken (rules (u .table) (core-module c) (c .period) (found c (s .banks) n) r n (at (c .period) n)) → ask u s r ≡ v
 unfolding ask
-asked-as u s r hc hn hv = sym (hv ∙ (λ i. first-broken (rules (u .table) (hc i) (s .banks) r (hn i) (at (hc i .period) (hn i)))))
+asked-as u s r hc hn hv =
+    sym
+    (hv ∙ (λ i. first-broken (rules (u .table) (core-module (hc i)) (hc i .period) (found (hc i) (s .banks) (hn i)) r (hn i) (at (hc i .period) (hn i)))))
 
 -- ── The fold ──
 

@@ -8,10 +8,10 @@ ghost use Rattle.parts.specs.Reach.{Reach, FitPeriod, BanksFit, Call};
 ghost use Rattle.rules.specs.Numbers.{first-broken, asked};
 ghost use Rattle.rules.specs.Banks.{row-of, every, open-within};
 ghost use Rattle.bursts.specs.Bus.{bus-after};
-ghost use Rattle.rules.specs.Parts.{word-in};
+ghost use Rattle.rules.specs.Parts.{core-module, word-in};
 ghost use Rattle.rules.specs.StartUp.{begun};
 ghost use Rattle.rules.specs.Closing.{burst-end};
-ghost use Rattle.rules.specs.Rules.{clock-max, command-rules, rules};
+ghost use Rattle.rules.specs.Rules.{clock-max, command-rules, rules, found};
 ghost use Rattle.rules.specs.After.{commanded, mark-banks};
 ghost use Rattle.packed.specs.Packed.{bank-in, banks-in, Held, Packed};
 use crate::numbers;
@@ -62,7 +62,8 @@ fn rows_within(period: Ps, max: Ps, moment: Ps, held: &[u64; 32]) -> bool
 // command runs, is read for each.
 fn ask_command(t: SpeedTable, c: Core, held: &[u64; 32], r: Record, n: Clock, moment: Ps) -> Verdict
     requires { ⌜ Call t c (banks-in (now held)) r × (n .0 ≤ clock-max) ⌝ }
-    ensures { λ x. ⌜ x ≡ first-broken (asked (executable (command r)) (command-rules (command r) t c (banks-in (now (held .entry))) r n moment)) ⌝ }
+    ensures { λ x. ⌜ x ≡ first-broken (asked (executable (command r))
+        (command-rules (command r) t (core-module c) (c .period) (found c (banks-in (now (held .entry))) n) r n moment)) ⌝ }
 {
     let k = layout::command_of(r.code);
     let code = layout::code_of(k);
@@ -86,7 +87,7 @@ fn ask_command(t: SpeedTable, c: Core, held: &[u64; 32], r: Record, n: Clock, mo
 // May record r stand on clock n?
 pub fn ask(t: SpeedTable, c: Core, held: &[u64; 32], r: Record, n: Clock) -> Verdict
     requires { ⌜ Call t c (banks-in (now held)) r × Reach (c .period) n ⌝ }
-    ensures { λ x. ⌜ x ≡ first-broken (rules t c (banks-in (now (held .entry))) r n (at (c .period) n)) ⌝ }
+    ensures { λ x. ⌜ x ≡ first-broken (rules t (core-module c) (c .period) (found c (banks-in (now (held .entry))) n) r n (at (c .period) n)) ⌝ }
 {
     let moment = time::at(c.period, n);
     let startup = c.startup;

@@ -4,7 +4,7 @@ use native.Mathlib.Nat.{le-refl, mul-le-mul-right}
 use native.Mathlib.Omega.{arith}
 use mathlib.Core.Path.{_≡_}
 use mathlib.Core.Bool.{Bool, true, false, _&&_, cond}
-use mathlib.Core.List.{List}
+use mathlib.Core.List.{List, []}
 use lib.Dec.{eqb}
 use Rattle.units.specs.declared.Clock.{Clock}
 use Rattle.units.specs.declared.Ps.{Ps}
@@ -30,7 +30,7 @@ use Rattle.rules.specs.declared.State.{State}
 use Rattle.rules.specs.declared.Setup.{Setup}
 use Rattle.rules.specs.declared.Verdict.the-variants.{Taken}
 use Rattle.rules.specs.Numbers.{tRCD, tRAS, tRC, tRP, tRRD, tRFC, tWR, tMRD}
-use Rattle.rules.specs.Parts.{clock-of, now, word, core-module}
+use Rattle.rules.specs.Parts.{clock-of, now, word-in, word, core-module}
 use Rattle.rules.specs.StartUp.{begun, counted-refresh}
 use Rattle.rules.specs.Banks.{open-within}
 use Rattle.rules.specs.Minima.{Since, met}
@@ -44,8 +44,10 @@ use Rattle.rules.specs.Rules.{
   minimum-rules,
   mode-rules,
   bus-rules,
+  Found,
   command-rules,
   rules,
+  found,
   ask,
 }
 use Rattle.rules.specs.After.{with-status, precharged, auto-closed, marked, bank-after, commanded, mark-banks, banks-after}
@@ -69,6 +71,9 @@ state-of c bs = record { core = c; banks = bs }
 
 abbrev pub setup : SpeedTable → Setup
 setup t = record { table = t }
+
+abbrev parts : StartUp → List Bank → Bool → Bool → Found
+parts v bs finished clear = record { startup = v; banks = bs; finished = finished; clear = clear }
 
 cond-le : (x : Bool) {a b d e : Ps} → a .0 ≤ b .0 → d .0 ≤ e .0 → cond x a d .0 ≤ cond x b e .0
 cond-le true p q = p
@@ -151,30 +156,34 @@ module _ {t u : SpeedTable} (e : NowhereHarder t u) where
   unfolding mode-rules
   softer-mode k m period r = ⊑-self ▸ ⊑-if (is k LoadMode) (⊑-leb (tCK-le (r .addr)) (le-refl (period .0))) ▸ end
 
-  softer-bus : (k : Command) (c : Core) (r : Record) (n : Clock) (b d : Bank) → Near b d
-      → Softer (bus-rules k t c (b .status) r n) (bus-rules k u c (d .status) r n)
+  softer-bus : (k : Command) (period : Ps) (word : ℕ) (finished clear : Bool) (r : Record) (n : Clock) (b d : Bank) → Near b d
+      → Softer (bus-rules k t period word finished clear (b .status) r n) (bus-rules k u period word finished clear (d .status) r n)
   unfolding bus-rules
-  softer-bus k c r n b d h =
+  softer-bus k period word finished clear r n b d h =
       ⊑-self
       ▸ ⊑-self
       ▸ ⊑-self
-      ▸ ⊑-if (asks-auto k r) (⊑-closes (c .period) (end-le k (c .period) (word c) n) b d h)
+      ▸ ⊑-if (asks-auto k r) (⊑-closes period (end-le k period word n) b d h)
       ▸ end
 
-  softer : (c : Core) (r : Record) (n : Clock) (moment : Ps) {bs ds : List Bank} → NearBanks bs ds
-      → Softer (rules t c bs r n moment) (rules u c ds r n moment)
+  -- whatever parts of the state the two have in common
+  softer : (m : Module) (period : Ps) (v : StartUp) (finished clear : Bool) (r : Record) (n : Clock) (moment : Ps) {bs ds : List Bank} → NearBanks bs ds
+      → Softer (rules t m period (parts v bs finished clear) r n moment) (rules u m period (parts v ds finished clear) r n moment)
   unfolding rules command-rules
-  softer c r n moment h =
+  softer m period v finished clear r n moment h =
       let k = command r in
-      softer-every (c .period) (c .startup .refreshes) r n moment h
+      softer-every period (v .refreshes) r n moment h
       ⧺ softer-asked (executable k)
-      (softer-place k (c .startup) r moment h
-      ⧺ (softer-minimum (c .period) moment (lower-minima k (c .period) (c .startup) r h) ⧺ (softer-mode k (core-module c) (c .period) r ⧺ softer-bus k c r n _ _ (near-at h (r .ba)))))
+      (softer-place k v r moment h
+      ⧺ (softer-minimum period moment (lower-minima k period v r h)
+      ⧺ (softer-mode k m period r ⧺ softer-bus k period (word-in (v .register)) finished clear r n _ _ (near-at h (r .ba)))))
 
   pub easier-taken : (c : Core) (r : Record) {bs ds : List Bank} → NearBanks bs ds
       → ask (setup t) (state-of c bs) r ≡ Taken → ask (setup u) (state-of c ds) r ≡ Taken
   unfolding ask
-  easier-taken c r h p = softer-taken (softer c r (clock-of c r) (now c r) h) p
+  easier-taken c r h p =
+      let f = found c [] (clock-of c r) in
+      softer-taken (softer (core-module c) (c .period) (c .startup) (f .finished) (f .clear) r (clock-of c r) (now c r) h) p
 
   -- ── What a record leaves ──
 

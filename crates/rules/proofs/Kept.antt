@@ -18,19 +18,22 @@ use Rattle.rules.specs.declared.Setup.{Setup}
 use Rattle.rules.specs.declared.Verdict.{Verdict}
 use Rattle.rules.specs.declared.Verdict.the-variants.{Taken, Refused}
 use Rattle.rules.specs.Numbers.{Rule, rule, first-broken, asked, number-of}
-use Rattle.rules.specs.Parts.{clock-of, now}
-use Rattle.rules.specs.Rules.{clock-max, every-rules, command-rules, rules}
+use Rattle.rules.specs.Parts.{clock-of, now, state-module}
+use Rattle.rules.specs.Rules.{clock-max, every-rules, command-rules, rules, found}
 
 -- the rows that a record meets in a state
 abbrev pub rules-of : Setup → State → Record → List Rule
-rules-of u s r = rules (u .table) (s .core) (s .banks) r (clock-of (s .core) r) (now (s .core) r)
+rules-of u s r =
+    rules (u .table) (state-module s) (s .core .period) (found (s .core) (s .banks) (clock-of (s .core) r)) r (clock-of (s .core) r) (now (s .core) r)
 
 abbrev pub every-rules-of : Setup → State → Record → List Rule
 every-rules-of u s r =
     every-rules (u .table) (s .core .period) (s .core .startup .refreshes) (s .banks) r (clock-of (s .core) r) (now (s .core) r)
 
 abbrev pub command-rules-of : Setup → State → Record → List Rule
-command-rules-of u s r = command-rules (command r) (u .table) (s .core) (s .banks) r (clock-of (s .core) r) (now (s .core) r)
+command-rules-of u s r =
+    command-rules (command r) (u .table) (state-module s) (s .core .period) (found (s .core) (s .banks) (clock-of (s .core) r)) r (clock-of (s .core) r)
+    (now (s .core) r)
 
 -- the test of number n, interval i
 abbrev pub test : ℕ → ℕ → List Rule → Bool

@@ -4,6 +4,7 @@ pub mod Easier
 pub mod Runs
 pub mod Demand3
 pub mod Kept
+pub mod Rows
 pub mod Admitted
 pub mod Stays
 pub mod OneRecord

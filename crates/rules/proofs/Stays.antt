@@ -7,11 +7,9 @@ use mathlib.Core.Bool.{Bool, true, false, _&&_, cond}
 use mathlib.Core.List.{List, [], _∷_}
 use lib.Dec.{ltb, eqb}
 use lib.ListN.{getD}
-use borrow.Author.Tests.{leb-true, eqb-true}
 use Rattle.units.specs.declared.Clock.{Clock}
 use Rattle.units.specs.declared.Ps.{Ps}
-use Rattle.units.specs.declared.Event.{Event}
-use Rattle.units.specs.declared.Event.the-variants.{Never, On}
+use Rattle.units.specs.declared.Event.the-variants.{On}
 use Rattle.units.specs.declared.Module.{Module}
 use Rattle.units.specs.Module.{bench-columns, rows, module-of}
 use Rattle.units.proofs.Both.{both}
@@ -19,17 +17,14 @@ use Rattle.units.proofs.Sizes.{some-row, some-column}
 use Rattle.layout.specs.declared.Record.{Record}
 use Rattle.layout.specs.declared.Command.{Command}
 use Rattle.layout.specs.declared.Command.the-variants.{
-  Inhibit,
-  Nop,
   Active,
   Read,
   Write,
-  Terminate,
   Precharge,
   Refresh,
   LoadMode,
 }
-use Rattle.layout.specs.Commands.{command, is, executable, covers, precharge-all}
+use Rattle.layout.specs.Commands.{command, is, covers, precharge-all}
 use Rattle.layout.specs.Widths.{Widths, OnModule}
 use Rattle.mode.specs.Word.{legal, single, length-of, write-length}
 use Rattle.bursts.specs.declared.Burst.{Burst}
@@ -47,23 +42,12 @@ use Rattle.rules.specs.declared.Core.{Core}
 use Rattle.rules.specs.declared.State.{State}
 use Rattle.rules.specs.declared.Setup.{Setup}
 use Rattle.rules.specs.declared.Verdict.the-variants.{Taken}
-use Rattle.rules.specs.Numbers.{asked, _⇒_}
+use Rattle.rules.specs.Numbers.{_⇒_}
 use Rattle.rules.specs.Parts.{clock-of, now, word-in, word, start, no-bank, state-module, core-module}
 use Rattle.rules.specs.StartUp.{begun, last-refresh}
 use Rattle.rules.specs.Banks.{bank-at, row-of}
 use Rattle.rules.specs.Closing.{burst-end}
-use Rattle.rules.specs.Rules.{
-  clock-max,
-  asks-auto,
-  every-rules,
-  place-rules,
-  minimum-rules,
-  mode-rules,
-  bus-rules,
-  command-rules,
-  rules,
-  ask,
-}
+use Rattle.rules.specs.Rules.{clock-max, asks-auto, ask}
 use Rattle.rules.specs.After.{one-more, startup-after, core-from, core-after, precharged, auto-closed, bank-after, marked, each-bank, commanded, mark-banks, banks-after, own-row, own-beat, next}
 use Rattle.rules.specs.Fits.{number-max}
 use Rattle.rules.specs.Admitted.{
@@ -83,35 +67,8 @@ use Rattle.rules.specs.Admitted.{
   CoreOn,
   Admitted,
 }
-use Rattle.rules.proofs.Kept.{rules-of, test, kept}
+use Rattle.rules.proofs.Rows.{zeros-kept, clock-kept, mode-kept}
 use Rattle.rules.proofs.Admitted.{bank-on-at}
-
--- ── What a taken record keeps ──
-
-pub clock-kept : (u : Setup) (s : State) (r : Record) → ask u s r ≡ Taken → clock-of (s .core) r .0 ≤ clock-max
-unfolding ask rules every-rules
-clock-kept u s r p = leb-true _ _ (kept 23 0 (rules-of u s r) p)
-
--- no zero bit is set: the record is on its module
-zero-kept : (u : Setup) (s : State) (r : Record) → ask u s r ≡ Taken → r .zeros ≡ 0
-unfolding ask rules every-rules
-zero-kept u s r p = eqb-true _ _ (kept 10 0 (rules-of u s r) p)
-
-mode-kept : (u : Setup) (s : State) (r : Record) → ask u s r ≡ Taken → (is (command r) LoadMode ⇒ legal (state-module s) (r .addr) && eqb (r .ba) 0) ≡ true
-unfolding ask rules every-rules command-rules place-rules minimum-rules mode-rules bus-rules
-mode-kept u s r p = go (command r) (kept 17 0 (rules-of u s r) p)
-  where
-    go : (k : Command) → test 17 0 (asked (executable k) (command-rules k (u .table) (s .core) (s .banks) r (clock-of (s .core) r) (now (s .core) r))) ≡ true
-        → (is k LoadMode ⇒ legal (state-module s) (r .addr) && eqb (r .ba) 0) ≡ true
-    go Inhibit h = refl
-    go Nop h = refl
-    go Active h = refl
-    go Read h = refl
-    go Write h = refl
-    go Terminate h = refl
-    go Precharge h = refl
-    go Refresh h = refl
-    go LoadMode h = h
 
 -- ── Small facts ──
 
@@ -164,7 +121,7 @@ cut-fits : (n : Clock) → n .0 ≤ clock-max → (x : Bool) (b : Burst) → Fit
 cut-fits n h x b f =
     record {
       start = f .start;
-      cut = cond-keeps FitEvent x (cut-on (b .start) n (b .cut)) (b .cut) (cond-keeps FitEvent (ltb (b .start .0) (n .0) && before-cut (b .start) n (b .cut)) (On n) (b .cut) h (f .cut)) (f .cut);
+      cut = cond-keeps FitEvent (x && b .live) (cut-on (b .start) n (b .cut)) (b .cut) (cond-keeps FitEvent (ltb (b .start .0) (n .0) && before-cut (b .start) n (b .cut)) (On n) (b .cut) h (f .cut)) (f .cut);
     }
 
 cut-stays-on : (m : Module) (n : Clock) (x : Bool) (b : Burst) → BurstOn m b → BurstOn m (cut-if x n b)
@@ -337,7 +294,7 @@ module _ (u : Setup) (s : State) (r : Record) (g : Entered u (s .core) r) (a : A
   bank-on-after : (k : Command) (i : ℕ) (b : Bank) → BankOn m-at b → BankOn m-at (after k i b)
   unfolding bank-after
   bank-on-after k i b h =
-      cond-keeps (BankOn m-at) (is k Active && eqb i (r .ba)) _ _ (g .place .row (zero-kept u s r p))
+      cond-keeps (BankOn m-at) (is k Active && eqb i (r .ba)) _ _ (g .place .row (zeros-kept u s r p))
       (cond-keeps (BankOn m-at) (asks-auto k r && eqb i (r .ba)) _ _ (auto-on _ _ (b .status))
       (cond-keeps (BankOn m-at) (is k Precharge && covers (r .addr) (r .ba) i) _ _ (precharged-on (begun (s .core .startup)) _ (b .status)) h))
 

@@ -148,22 +148,36 @@ abbrev pub runs-from : SpeedTable → State → List Record → ℕ → ℕ → 
 runs-from t s rs number interval reported beats =
     outcome-of (s .core .number) (run (record { table = t }) s rs) gives outcome number interval reported beats
 
--- a whole trace
-abbrev pub runs : SpeedTable → ℕ → List Record → ℕ → ℕ → ℕ → List Reported → Row Outcome
-runs t period rs number interval reported beats =
-    runs-from t (start (time period) 2 0 0) rs number interval reported beats
+-- a whole trace, and what it gives: with this table, at this period
+pub data Case : Type 0 where
+  case : (t : SpeedTable) (period : ℕ) (rs : List Record) (o : Outcome) → Case
+
+abbrev pub runs : SpeedTable → ℕ → List Record → ℕ → ℕ → ℕ → List Reported → Case
+runs t period rs number interval reported beats = case t period rs (outcome number interval reported beats)
 
 -- refused, with no beat reported before
-abbrev pub refuses : SpeedTable → ℕ → List Record → ℕ → ℕ → ℕ → Row Outcome
+abbrev pub refuses : SpeedTable → ℕ → List Record → ℕ → ℕ → ℕ → Case
 refuses t period rs number interval reported = runs t period rs number interval reported []
 
 -- clean, and no beat reported
-abbrev pub takes : SpeedTable → ℕ → List Record → ℕ → Row Outcome
+abbrev pub takes : SpeedTable → ℕ → List Record → ℕ → Case
 takes t period rs count = runs t period rs 0 0 count []
 
 -- clean, with these beats
-abbrev pub reports : SpeedTable → ℕ → List Record → ℕ → List Reported → Row Outcome
+abbrev pub reports : SpeedTable → ℕ → List Record → ℕ → List Reported → Case
 reports t period rs count beats = runs t period rs 0 0 count beats
+
+-- the cases as a judge of whole traces finds them
+abbrev pub case-by : (SpeedTable → ℕ → List Record → Run) → Case → Row Outcome
+case-by judge (case t period rs o) = outcome-of 0 (judge t period rs) gives o
+
+abbrev pub cases-by : (SpeedTable → ℕ → List Record → Run) → List Case → List (Row Outcome)
+cases-by judge [] = []
+cases-by judge (c ∷ cs) = case-by judge c ∷ cases-by judge cs
+
+-- the judge of a definition with a state
+abbrev pub whole-run : SpeedTable → ℕ → List Record → Run
+whole-run t period rs = run (record { table = t }) (start (time period) 2 0 0) rs
 
 -- beats on all lanes of these columns of bank 1, row 7, on record k's clock n and on those of the next records
 abbrev pub Ws : ℕ → ℕ → List ℕ → List Reported
@@ -180,7 +194,7 @@ Rs k n (c ∷ cs) = R k n 1 7 c 255 ∷ Rs (suc k) (suc n) cs
 abbrev pub own-table : SpeedTable
 own-table = table 10_000 7_500 44_000 120_000_000 66_000 20_000 20_000 15_000 66_000 15_000 7_500 200_000_000 2
 
-abbrev pub bench : List (Row Outcome)
+abbrev pub bench : List Case
 bench =
     -- P1
     refuses grade-133 7500 (all-banks 13333 ∷ []) 14 0 0
@@ -225,6 +239,6 @@ bench =
     ∷ refuses own-table 7500 (up-active 0x31 (nop 16000 255 ∷ [])) 13 0 5
     ∷ []
 
-pub bench-right : found bench ≡ expected bench
+pub bench-right : found (cases-by whole-run bench) ≡ expected (cases-by whole-run bench)
 unfolding module-of length-of beat-column has-beat write-beat read-beat finished masks-on masks-after reads-from bus-after beat-on bursts-finished driven bus-clear allowed banks-found of-closing of-any of-active of-access of-precharged of-precharge of-idle events minima every-rules place-rules minimum-rules mode-rules bus-rules command-rules rules ask startup-after beat core-from core-after bank-after commanded mark-banks banks-after next run
 bench-right = refl

@@ -12,7 +12,7 @@ use Rattle.mode.specs.Word.{length-of}
 use Rattle.mode.specs.Order.{beat-column}
 use Rattle.bursts.specs.Burst.{has-beat, write-beat, read-beat, finished}
 use Rattle.bursts.specs.Bus.{masks-on, masks-after, reads-from, bus-after, beat-on, bursts-finished, driven, bus-clear}
-use Rattle.bursts.specs.Cases.{Row, found, expected}
+use Rattle.bursts.specs.Cases.{found, expected}
 use Rattle.rules.specs.Numbers.{tRAS, tRC, tRP, tRRD, tMRD}
 use Rattle.rules.specs.StartUp.{allowed}
 use Rattle.rules.specs.Banks.{banks-found}
@@ -48,11 +48,14 @@ use Rattle.rules.specs.Cases.{
   W,
   R,
   Ws,
-  Outcome,
+  Rs,
+  Case,
   runs,
   refuses,
   takes,
   reports,
+  cases-by,
+  whole-run,
   own-table,
 }
 use Rattle.rules.specs.OrderCases.{all-orders}
@@ -72,7 +75,7 @@ zero-bit = record { skipped = 0; cke = 1; code = code-of Nop; ba = 0; addr = 0; 
 abbrev cke-low : Record
 cke-low = record { skipped = 0; cke = 0; code = code-of Nop; ba = 0; addr = 0; column = 0; masks = 255; zeros = 0; dq = 0 }
 
-abbrev pub further : List (Row Outcome)
+abbrev pub further : List Case
 further =
     -- 10, 23 and 11
     refuses grade-133 7500 (zero-bit ∷ []) 10 0 0
@@ -102,6 +105,8 @@ further =
     ∷ takes grade-133 7500 (up-active 0x31 (active 1 2 0 ∷ [])) 6
     ∷ refuses grade-133 7500 (up 0x31 (active 0 1 7 ∷ [])) 16 tMRD 4
     ∷ runs grade-133 7500 (up-active 0x30 (write 2 1 0 ∷ precharge 0 1 ∷ [])) 16 tRAS 6 (Ws 5 13360 (0 ∷ []))
+    -- "A minimum is met if its event has never occurred": tRFC 200,000,000 at the first refresh
+    ∷ takes (table 0 0 0 120_000_000 0 0 0 0 200_000_000 0 0 200_000_000 0) 7500 (all-banks 13334 ∷ refresh 0 ∷ []) 2
     -- tRP since a PRECHARGE ALL of banks long closed holds back BURST TERMINATE too
     ∷ refuses grade-133 7500 (up 0x31 (all-banks 10 ∷ terminate 0 ∷ [])) 16 tRP 5
     ∷ takes grade-133 7500 (up 0x31 (all-banks 10 ∷ terminate 2 ∷ [])) 6
@@ -147,14 +152,24 @@ further =
     ∷ reports grade-133 7500 (up-active 0x30 (read 2 1 0 ∷ nop 0 0xf0 ∷ nop 0 0 ∷ nop 0 0xff ∷ [])) 9 (R 8 13363 1 7 0 0x0f ∷ [])
     ∷ reports grade-133 7500 (up-active 0x32 (write 2 1 0 ∷ precharge 0 2 ∷ nops 3 [])) 10
     (W 5 13360 1 7 0 255 ∷ W 6 13361 1 7 1 0 ∷ Ws 7 13362 (2 ∷ 3 ∷ []))
-    -- full page goes on; only its own bank's PRECHARGE cuts it
+    -- full page goes on, a READ's with M9 too; only its own bank's PRECHARGE cuts a burst
     ∷ reports own-table 7500 (up-active 0x37 (write 2 1 0 ∷ nop 2047 0 ∷ [])) 7 (W 5 13360 1 7 0 255 ∷ W 6 15408 1 7 0 255 ∷ [])
     ∷ reports grade-133 7500 (up-active 0x37 (write 5 1 0 ∷ precharge 1 1 ∷ nop 0 0 ∷ [])) 8 (Ws 5 13363 (0 ∷ []))
     ∷ reports grade-133 7500 (up-active 0x32 (read 5 1 0 ∷ precharge 0 1 ∷ nops 5 [])) 12 (R 8 13366 1 7 0 0 ∷ [])
+    ∷ reports grade-133 7500 (up-active 0x32 (active 1 2 7 ∷ read 4 1 0 ∷ precharge 0 2 ∷ nops 5 [])) 13
+    (R 9 13367 1 7 0 0 ∷ Rs 10 13368 (1 ∷ 2 ∷ 3 ∷ []))
+    ∷ reports own-table 7500 (up-active 0x237 (read 2 1 0 ∷ nop 2050 0 ∷ [])) 7 (R 6 15411 1 7 0 0 ∷ [])
+    -- a WRITE loses its beats to the next WRITE, a READ to the next READ, though that one is cut by a PRECHARGE of its own bank
+    ∷ reports no-minima 7500 (up-active 0x33 (active 0 2 8 ∷ write 0 1 0 ∷ write 0 2 16 ∷ precharge 0 2 ∷ nops 2 [])) 11
+    (W 6 13359 1 7 0 255 ∷ W 7 13360 2 8 16 255 ∷ [])
+    ∷ reports no-minima 7500 (up-active 0x33 (active 0 2 8 ∷ read 0 1 0 ∷ read 0 2 16 ∷ precharge 0 2 ∷ nops 4 [])) 13
+    (R 9 13362 1 7 0 255 ∷ R 10 13363 2 8 16 0 ∷ [])
     -- M9 = 1 makes writes single; A11 then A9 to A0 is the column
     ∷ reports grade-133 7500 (up-active 0x231 (write 2 1 5 ∷ nop 0 0 ∷ [])) 7 (Ws 5 13360 (5 ∷ []))
     ∷ reports grade-133 7500 (up-active 0x237 (write 2 1 5 ∷ nop 0 0 ∷ [])) 7 (Ws 5 13360 (5 ∷ []))
     ∷ reports grade-133 7500 (up-active 0x30 (write 2 1 7173 ∷ [])) 6 (Ws 5 13360 (1029 ∷ []))
+    -- the row is A12 to A0 of the last ACTIVE of the burst's own bank
+    ∷ reports grade-133 7500 (up 0x30 (active 1 1 8191 ∷ active 1 2 8 ∷ write 2 1 0 ∷ [])) 7 (W 6 13362 1 8191 0 255 ∷ [])
     -- a burst keeps the mode of its registration: CL 3, though CL 2 is loaded before its beats
     ∷ reports no-minima 7500 (up-active 0x32 (read 2 1 0 ∷ nop 0 0 ∷ precharge 0 1 ∷ load 0 0x21 ∷ nops 3 [])) 12
     (R 8 13363 1 7 0 255 ∷ R 9 13364 1 7 1 0 ∷ [])
@@ -162,6 +177,8 @@ further =
 
 -- those, which rule comes first (`OrderCases`), and each minimum with each command (`MinimaCases`)
 pub further-right :
-    (found further ≡ expected further) × (found all-orders ≡ expected all-orders) × (found all-minima ≡ expected all-minima)
+    (found (cases-by whole-run further) ≡ expected (cases-by whole-run further))
+    × (found (cases-by whole-run all-orders) ≡ expected (cases-by whole-run all-orders))
+    × (found all-minima ≡ expected all-minima)
 unfolding module-of length-of beat-column has-beat write-beat read-beat finished masks-on masks-after reads-from bus-after beat-on bursts-finished driven bus-clear allowed banks-found of-closing of-any of-active of-access of-precharged of-precharge of-idle events minima every-rules place-rules minimum-rules mode-rules bus-rules command-rules rules ask startup-after beat core-from core-after bank-after commanded mark-banks banks-after next run
 further-right = (refl, refl, refl)

@@ -1,7 +1,6 @@
 -- Each minimum of number 16 with each command that asks it, from each kind of event that it counts from, on both sides; and the steps
 -- of start-up with each command. From document 01's sentences. `FurtherCases` proves it.
 use Prim.Native.Nat.{ℕ, zero, suc, _+_}
-use mathlib.Core.Bool.{false}
 use mathlib.Core.List.{List, [], _∷_, _++_}
 use lib.ListN.{length}
 use Rattle.units.specs.declared.Event.the-variants.{Never, On}
@@ -10,8 +9,7 @@ use Rattle.speed.specs.declared.SpeedTable.{SpeedTable}
 use Rattle.speed.specs.Table.{table}
 use Rattle.layout.specs.declared.Record.{Record}
 use Rattle.layout.specs.declared.Command.the-variants.{Inhibit, Write}
-use Rattle.bursts.specs.declared.Burst.{Burst}
-use Rattle.bursts.specs.Bus.{all-masks-high}
+use Rattle.bursts.specs.Bus.{quiet-bus}
 use Rattle.bursts.specs.Cases.{Row}
 use Rattle.rules.specs.declared.Refreshes.the-variants.{Two}
 use Rattle.rules.specs.declared.Register.the-variants.{Loaded}
@@ -37,10 +35,10 @@ use Rattle.rules.specs.Cases.{
   R,
   Outcome,
   runs-from,
-  refuses,
-  takes,
-  reports,
+  case-by,
+  whole-run,
 }
+use Rattle.rules.specs.Cases as cases
 use Rattle.rules.specs.StateCases.{state, bank}
 use Rattle.rules.specs.OrderCases.{at-banks}
 
@@ -78,23 +76,20 @@ closed-by trasmin addition = table 0 0 trasmin 120_000_000 0 0 0 0 0 0 addition 
 abbrev three : ℕ
 three = 22_500
 
+-- ── Whole traces ──
+
+abbrev refuses : SpeedTable → ℕ → List Record → ℕ → ℕ → ℕ → Row Outcome
+refuses t period rs number interval reported = case-by whole-run (cases.refuses t period rs number interval reported)
+
+abbrev takes : SpeedTable → ℕ → List Record → ℕ → Row Outcome
+takes t period rs count = case-by whole-run (cases.takes t period rs count)
+
+abbrev reports : SpeedTable → ℕ → List Record → ℕ → List Reported → Row Outcome
+reports t period rs count beats = case-by whole-run (cases.reports t period rs count beats)
+
 -- ── A command on both sides of a minimum ──
 
--- an empty place, cut by the first PRECHARGE ALL
-abbrev idle : Burst
-idle =
-    record {
-      live = false;
-      auto = false;
-      bank = 0;
-      row = 0;
-      column = 0;
-      start = clock 0;
-      cut = On (clock 13_334);
-      word = 0x30;
-    }
-
--- a bank that it closed
+-- a bank that the first PRECHARGE ALL closed
 abbrev closed : Bank
 closed = bank (Closed (time 100_005_000)) Never Never
 
@@ -103,7 +98,7 @@ abbrev pub ready : ℕ → State
 ready word =
     state 7500 0 0 4 (On (clock 13_355))
     (record { allclosed = On (clock 13_334); refreshes = Two (clock 13_346); register = Loaded word (clock 13_355) })
-    (record { write = idle; reads = idle ∷ idle ∷ idle ∷ idle ∷ []; masks = all-masks-high })
+    quiet-bus
     (closed ∷ closed ∷ closed ∷ closed ∷ [])
 
 -- after `up` in this mode and these records, which report `before`, the next one is number `k`: refused with this interval after so many

@@ -5,7 +5,6 @@ use mathlib.Core.Path.{_≡_, refl}
 use mathlib.Core.Bool.{Bool, true, false}
 use mathlib.Core.List.{List, [], _∷_, _++_}
 use lib.ListN.{replicate}
-use Rattle.units.specs.declared.Clock.{Clock}
 use Rattle.units.specs.declared.Event.{Event}
 use Rattle.units.specs.declared.Event.the-variants.{Never, On}
 use Rattle.units.specs.Time.{clock, time}
@@ -102,29 +101,25 @@ abbrev burst : Bool → ℕ → ℕ → ℕ → ℕ → Event → Burst
 burst auto ba row column start cut =
     record { live = true; auto = auto; bank = ba; row = row; column = column; start = clock start; cut = cut; word = 0x31 }
 
--- a WRITE of bank 3 on 950 and a READ of bank 1 on 990, both over, cut or not; empty places
+-- a WRITE of bank 3 on 950 and a READ of bank 1 on 990, both over, cut or not
 abbrev w950 : Event → Burst
 w950 cut = burst false 3 9 4 950 cut
 
 abbrev r990 : Event → Burst
 r990 cut = burst false 1 7 0 990 cut
 
-abbrev none : Event → Burst
-none cut =
-    record { live = false; auto = false; bank = 0; row = 0; column = 0; start = clock 0; cut = cut; word = 0x30 }
-
 -- the clock of the next record
 abbrev at-1001 : Event
 at-1001 = On (clock 1_001)
 
-abbrev reads : Event → Event → List Burst
-reads e f = r990 e ∷ none f ∷ none f ∷ none f ∷ []
+abbrev reads : Event → List Burst
+reads e = r990 e ∷ no-burst ∷ no-burst ∷ no-burst ∷ []
 
 abbrev bus : Burst → List Burst → Masks → Bus
 bus write reads m = record { write = write; reads = reads; masks = m }
 
 abbrev full : State
-full = state 7500 1 7 5 (On (clock 1_000)) over (bus (w950 Never) (reads Never Never) (masks 1 2 3)) (b0 ∷ b1 ∷ b2 ∷ b3 ∷ [])
+full = state 7500 1 7 5 (On (clock 1_000)) over (bus (w950 Never) (reads Never) (masks 1 2 3)) (b0 ∷ b1 ∷ b2 ∷ b3 ∷ [])
 
 -- after one record more, on clock 1,001
 abbrev then : StartUp → Bus → List Bank → State
@@ -132,10 +127,10 @@ then u b banks = state 7500 1 7 6 at-1001 u b banks
 
 -- with all four banks closed
 abbrev idle : StartUp → State
-idle u = state 7500 1 7 5 (On (clock 1_000)) u (bus (w950 Never) (reads Never Never) (masks 1 2 3)) (b0 ∷ b2 ∷ b2 ∷ b0 ∷ [])
+idle u = state 7500 1 7 5 (On (clock 1_000)) u (bus (w950 Never) (reads Never) (masks 1 2 3)) (b0 ∷ b2 ∷ b2 ∷ b0 ∷ [])
 
 abbrev idle-then : StartUp → State
-idle-then u = then u (bus (w950 Never) (reads Never Never) (masks 255 1 2)) (b0 ∷ b2 ∷ b2 ∷ b0 ∷ [])
+idle-then u = then u (bus (w950 Never) (reads Never) (masks 255 1 2)) (b0 ∷ b2 ∷ b2 ∷ b0 ∷ [])
 
 -- start-up with these refreshes, with this mode word loaded on this clock
 abbrev refreshed : ℕ → ℕ → ℕ → StartUp
@@ -144,14 +139,14 @@ refreshed last word load = record { allclosed = On (clock 0); refreshes = Two (c
 -- a WRITE of the watched row on 1,000 from column 2, whose second beat is on 1,001; before it and after it
 abbrev running : Event → State
 running cut =
-    state 7500 1 7 5 (On (clock 1_000)) over (bus (burst false 1 7 2 1_000 cut) (reads Never Never) (masks 1 2 3))
+    state 7500 1 7 5 (On (clock 1_000)) over (bus (burst false 1 7 2 1_000 cut) (reads Never) (masks 1 2 3))
     (b0 ∷ b1 ∷ b2 ∷ b3 ∷ [])
 
 abbrev b-stored : Bank
 b-stored = bank (Open 7 (clock 900)) (On (clock 900)) at-1001
 
 abbrev ran : Masks → Event → Bank → State
-ran m cut b = then over (bus (burst false 1 7 2 1_000 cut) (reads Never Never) m) (b0 ∷ b ∷ b2 ∷ b3 ∷ [])
+ran m cut b = then over (bus (burst false 1 7 2 1_000 cut) (reads Never) m) (b0 ∷ b ∷ b2 ∷ b3 ∷ [])
 
 -- a record on the next clock, its data 08 to 01 in lanes 7 to 0
 abbrev rec : Command → ℕ → ℕ → ℕ → Record
@@ -190,26 +185,26 @@ abbrev commands : List (Row Stepped)
 commands =
     -- NOP and COMMAND INHIBIT: number, clock and masks move on, and nothing else
     takes full (rec Nop 3 1024 0xf0) Quiet
-    (then over (bus (w950 Never) (reads Never Never) (masks 0xf0 1 2)) (b0 ∷ b1 ∷ b2 ∷ b3 ∷ [])) page
+    (then over (bus (w950 Never) (reads Never) (masks 0xf0 1 2)) (b0 ∷ b1 ∷ b2 ∷ b3 ∷ [])) page
     ∷ takes full (rec Inhibit 3 1024 0xf0) Quiet
-    (then over (bus (w950 Never) (reads Never Never) (masks 0xf0 1 2)) (b0 ∷ b1 ∷ b2 ∷ b3 ∷ [])) page
+    (then over (bus (w950 Never) (reads Never) (masks 0xf0 1 2)) (b0 ∷ b1 ∷ b2 ∷ b3 ∷ [])) page
     -- ACTIVE: its row is open from now; no byte was stored since
     ∷ takes full (rec Active 0 0x1abc 255) Quiet
-    (then over (bus (w950 Never) (reads Never Never) (masks 255 1 2))
+    (then over (bus (w950 Never) (reads Never) (masks 255 1 2))
     (bank (Open 0x1abc (clock 1_001)) at-1001 Never ∷ b1 ∷ b2 ∷ b3 ∷ []))
     page
     ∷ takes full (rec Active 2 5 255) Quiet
-    (then over (bus (w950 Never) (reads Never Never) (masks 255 1 2))
+    (then over (bus (w950 Never) (reads Never) (masks 255 1 2))
     (b0 ∷ b1 ∷ bank (Open 5 (clock 1_001)) at-1001 Never ∷ b3 ∷ []))
     page
     -- READ: a new burst; it cuts the others
     ∷ takes full (rec Read 1 5 0) Quiet
-    (then over (bus (w950 at-1001) (burst false 1 7 5 1_001 Never ∷ r990 at-1001 ∷ none at-1001 ∷ none at-1001 ∷ [])
+    (then over (bus (w950 at-1001) (burst false 1 7 5 1_001 Never ∷ r990 at-1001 ∷ no-burst ∷ no-burst ∷ [])
     (masks 0 1 2)) (b0 ∷ b1 ∷ b2 ∷ b3 ∷ []))
     page
     -- with auto precharge: "the bank closed at once", on clock r + length, 1,003
     ∷ takes full (rec Read 1 0x405 0) Quiet
-    (then over (bus (w950 at-1001) (burst true 1 7 5 1_001 Never ∷ r990 at-1001 ∷ none at-1001 ∷ none at-1001 ∷ []) (masks 0 1 2))
+    (then over (bus (w950 at-1001) (burst true 1 7 5 1_001 Never ∷ r990 at-1001 ∷ no-burst ∷ no-burst ∷ []) (masks 0 1 2))
     (b0 ∷ bank (Closed (time 7_522_500)) (On (clock 900)) Never ∷ b2 ∷ b3 ∷ []))
     page
     -- WRITE of the watched row: lanes 3 to 0 of column 3 are stored; the READs before it are gone
@@ -228,24 +223,24 @@ commands =
     page
     -- BURST TERMINATE
     ∷ takes full (rec Terminate 0 0 0) Quiet
-    (then over (bus (w950 at-1001) (reads at-1001 at-1001) (masks 0 1 2)) (b0 ∷ b1 ∷ b2 ∷ b3 ∷ [])) page
+    (then over (bus (w950 at-1001) (reads at-1001) (masks 0 1 2)) (b0 ∷ b1 ∷ b2 ∷ b3 ∷ [])) page
     -- PRECHARGE: "it closes now", at 7,507,500 ps, and keeps its last ACTIVE and store; its own bank's bursts are cut
     ∷ takes full (rec Precharge 1 0 255) Quiet
-    (then over (bus (w950 Never) (reads at-1001 Never) (masks 255 1 2))
+    (then over (bus (w950 Never) (reads at-1001) (masks 255 1 2))
     (b0 ∷ bank (Closed (time 7_507_500)) (On (clock 900)) Never ∷ b2 ∷ b3 ∷ []))
     page
     ∷ takes full (rec Precharge 3 0x1bff 255) Quiet
-    (then over (bus (w950 at-1001) (reads Never Never) (masks 255 1 2))
+    (then over (bus (w950 at-1001) (reads Never) (masks 255 1 2))
     (b0 ∷ b1 ∷ b2 ∷ bank (Closed (time 7_507_500)) (On (clock 901)) (On (clock 950)) ∷ []))
     page
     -- "A closed bank .. keeps that closing time"
     ∷ takes full (rec Precharge 2 0 255) Quiet
-    (then over (bus (w950 Never) (reads Never Never) (masks 255 1 2)) (b0 ∷ b1 ∷ b2 ∷ b3 ∷ []))
+    (then over (bus (w950 Never) (reads Never) (masks 255 1 2)) (b0 ∷ b1 ∷ b2 ∷ b3 ∷ []))
     page
     -- PRECHARGE ALL, "each of the four", whatever BA
     ∷ takes full (rec Precharge 2 1024 255) Quiet
     (then (record { allclosed = at-1001; refreshes = Two (clock 900); register = Loaded 0x31 (clock 950) })
-    (bus (w950 at-1001) (reads at-1001 at-1001) (masks 255 1 2))
+    (bus (w950 at-1001) (reads at-1001) (masks 255 1 2))
     (b0 ∷ bank (Closed (time 7_507_500)) (On (clock 900)) Never ∷ b2 ∷ bank (Closed (time 7_507_500)) (On (clock 901))
     (On (clock 950)) ∷ []))
     page
@@ -265,11 +260,10 @@ commands =
     (idle-then (refreshed 900 0x30 1_001))
     page
     -- "The first PRECHARGE ALL closes all banks": now, whatever they were
-    ∷ takes (state 65_535 1 7 5 (On (clock 2_000)) not-begun (bus (none Never) no-reads (masks 1 2 3))
+    ∷ takes (state 65_535 1 7 5 (On (clock 2_000)) not-begun (bus no-burst no-reads (masks 1 2 3))
     (b0 ∷ b1 ∷ no-bank ∷ b3 ∷ [])) (rec Precharge 2 1024 255) Quiet
     (state 65_535 1 7 6 (On (clock 2_001)) (record { allclosed = On (clock 2_001); refreshes = None; register = Unloaded })
-    (bus (none (On (clock 2_001))) (none (On (clock 2_001)) ∷ none (On (clock 2_001)) ∷ none (On (clock 2_001)) ∷ none
-    (On (clock 2_001)) ∷ []) (masks 255 1 2))
+    (bus no-burst no-reads (masks 255 1 2))
     (bank (Closed (time 131_135_535)) (On (clock 100)) (On (clock 101))
     ∷ bank (Closed (time 131_135_535)) (On (clock 900)) Never
     ∷ bank (Closed (time 131_135_535)) Never Never
@@ -282,10 +276,10 @@ commands =
     (replicate 24 255 ++ (1 ∷ 2 ∷ 3 ∷ 4 ∷ 5 ∷ 6 ∷ 7 ∷ 8 ∷ []) ++ replicate 8 255)
     -- a READ's beat stores nothing
     ∷ takes (state 7500 1 7 5 (On (clock 1_000)) over
-    (bus (w950 Never) (burst false 1 7 2 997 Never ∷ none Never ∷ none Never ∷ none Never ∷ []) (masks 0x0f 0xf0 0))
+    (bus (w950 Never) (burst false 1 7 2 997 Never ∷ no-burst ∷ no-burst ∷ no-burst ∷ []) (masks 0x0f 0xf0 0))
     (b0 ∷ b1 ∷ b2 ∷ b3 ∷ []))
     (rec Nop 0 0 0) (Drives (record { bank = 1; row = 7; column = 3; lanes = 0x0f }))
-    (then over (bus (w950 Never) (burst false 1 7 2 997 Never ∷ none Never ∷ none Never ∷ none Never ∷ []) (masks 0 0x0f 0xf0))
+    (then over (bus (w950 Never) (burst false 1 7 2 997 Never ∷ no-burst ∷ no-burst ∷ no-burst ∷ []) (masks 0 0x0f 0xf0))
     (b0 ∷ b1 ∷ b2 ∷ b3 ∷ []))
     page
     -- refused: "changes neither state nor page", though a beat would fall on its clock; a refused LOAD MODE does not count
@@ -305,7 +299,7 @@ commands =
 -- the clock of a record after so many skipped clocks
 abbrev clocked : Event → ℕ → ℕ
 clocked last skipped =
-    clock-of (state 7500 1 7 5 last over (bus (none Never) no-reads (masks 1 2 3)) [] .core)
+    clock-of (state 7500 1 7 5 last over (bus no-burst no-reads (masks 1 2 3)) [] .core)
     (record { skipped = skipped; cke = 1; code = 7; ba = 0; addr = 0; column = 0; masks = 0; zeros = 0; dq = 0 }) .0
 
 abbrev numbers : List (Row ℕ)
@@ -333,7 +327,7 @@ abbrev states : List (Row State)
 states =
     -- before the first record
     start (time 7500) 2 3 8191
-    gives state 7500 3 8191 0 Never not-begun (bus (none Never) no-reads (masks 255 255 255))
+    gives state 7500 3 8191 0 Never not-begun (bus no-burst no-reads (masks 255 255 255))
     (no-bank ∷ no-bank ∷ no-bank ∷ no-bank ∷ [])
     -- after start-up: the state that the rows of `MinimaCases` begin from
     ∷ after (start (time 7500) 2 0 0) (up 0x30 []) gives ready 0x30

@@ -7,7 +7,6 @@ use Rattle.speed.specs.Table.{table, grade-13E, grade-133}
 use Rattle.layout.specs.declared.Record.{Record}
 use Rattle.layout.specs.declared.Command.the-variants.{Inhibit, Nop, Active, Read, LoadMode}
 use Rattle.layout.specs.Commands.{code-of}
-use Rattle.bursts.specs.Cases.{Row}
 use Rattle.rules.specs.Numbers.{tRCD, tRAS, tRC, tRP, tRRD, tRFC, tWR, tMRD}
 use Rattle.rules.specs.Cases.{
   rec,
@@ -29,7 +28,7 @@ use Rattle.rules.specs.Cases.{
   R,
   Ws,
   Rs,
-  Outcome,
+  Case,
   runs,
   refuses,
   takes,
@@ -67,11 +66,11 @@ abbrev up-slow : ℕ → List Record
 up-slow word = all-banks 20_000 ∷ refresh 20 ∷ refresh 20 ∷ load 20 word ∷ []
 
 -- f at each of the four banks
-abbrev pub at-banks : (ℕ → List (Row Outcome)) → List (Row Outcome)
+abbrev pub at-banks : {A : Type 0} → (ℕ → List A) → List A
 at-banks f = f 0 ++ f 1 ++ f 2 ++ f 3
 
 -- 13 of bank b: its row, opened on 13,357, is open for 10 clocks, and for 11
-abbrev open-long : ℕ → List (Row Outcome)
+abbrev open-long : ℕ → List Case
 open-long b =
     takes (no-minima 0 75_000 0) 7500 (up 0x31 (active 1 b 7 ∷ nop 9 255 ∷ [])) 6
     ∷ refuses (no-minima 0 75_000 0) 7500 (up 0x31 (active 1 b 7 ∷ nop 10 255 ∷ [])) 13 0 5
@@ -79,7 +78,7 @@ open-long b =
     ∷ []
 
 -- 15 of bank b: ACTIVE, AUTO REFRESH and LOAD MODE with its row open; READ and WRITE with all banks closed, or another one open
-abbrev found-wrong : ℕ → ℕ → List (Row Outcome)
+abbrev found-wrong : ℕ → ℕ → List Case
 found-wrong b another =
     refuses grade-133 7500 (up 0x31 (active 1 b 7 ∷ active 20 b 8 ∷ [])) 15 0 5
     ∷ refuses grade-133 7500 (up 0x31 (active 1 b 7 ∷ refresh 20 ∷ [])) 15 0 5
@@ -93,7 +92,7 @@ found-wrong b another =
 
 -- 19 in mode 0032, length 4: an auto precharge burst of bank 1 on 13,358, which record 6 starts and reports `first` on; then READ, WRITE
 -- and BURST TERMINATE on the third clock after it, and on the fourth. There a READ's second beat falls, masked on the skipped clock
-abbrev unfinished : (ℕ → ℕ → ℕ → Record) → List Reported → List Reported → List (Row Outcome)
+abbrev unfinished : (ℕ → ℕ → ℕ → Record) → List Reported → List Reported → List Case
 unfinished burst first second =
     runs (no-minima 0 120_000_000 0) 7500 (up-both 0x32 (burst 0 1 (with-a10 0) ∷ read 2 2 0 ∷ [])) 19 0 7 first
     ∷ runs (no-minima 0 120_000_000 0) 7500 (up-both 0x32 (burst 0 1 (with-a10 0) ∷ write 2 2 0 ∷ [])) 19 0 7 first
@@ -109,7 +108,7 @@ unfinished burst first second =
     (first ++ (W 7 13359 2 7 0 255 ∷ []))
     ∷ []
 
-abbrev orders : List (Row Outcome)
+abbrev orders : List Case
 orders =
     -- "tried in the order listed": 10 before 11, 11 before 12, 12 before 13, 14 before 15, 15 before 16, 16 before 17, 17 before 18
     refuses grade-133 7500 (cke-low 0 1 ∷ []) 10 0 0
@@ -191,6 +190,11 @@ orders =
     -- a store before the bank's latest ACTIVE starts no tWR after it
     ∷ reports (other 120_000_000 66_000 20_000 1_000_000) 7500
     (up-active 0x30 (write 5 1 (with-a10 0) ∷ active 10 1 8 ∷ precharge 5 1 ∷ [])) 8 (Ws 5 13363 (0 ∷ []))
+    -- tWR since the last store, on 13,361, some records back: 40,000 ps are met 6 clocks later, not 5
+    ∷ runs (other 120_000_000 66_000 20_000 40_000) 7500 (up-active 0x31 (write 2 1 0 ∷ nops 2 (precharge 3 1 ∷ []))) 16 tWR 8
+    (Ws 5 13360 (0 ∷ 1 ∷ []))
+    ∷ reports (other 120_000_000 66_000 20_000 40_000) 7500 (up-active 0x31 (write 2 1 0 ∷ nops 2 (precharge 4 1 ∷ []))) 9
+    (Ws 5 13360 (0 ∷ 1 ∷ []))
     -- the lowest of two minima: tRAS of bank 2 and tRP of bank 1 under PRECHARGE ALL; tRC and tRP of an ACTIVE; tRP and tRRD; tRRD and tRFC
     ∷ refuses (other 120_000_000 66_000 1_000_000 15_000) 7500
     (up-late 0x30 (active 1 1 7 ∷ active 3 2 7 ∷ precharge 1 1 ∷ all-banks 0 ∷ [])) 16 tRAS 7
@@ -251,7 +255,7 @@ orders =
     ∷ []
 
 -- the orders, and what depends on the bank or on the burst
-abbrev pub all-orders : List (Row Outcome)
+abbrev pub all-orders : List Case
 all-orders =
     orders
     ++ at-banks open-long

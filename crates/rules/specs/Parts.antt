@@ -10,9 +10,12 @@ use Rattle.units.specs.Module.{module-of}
 use Rattle.units.specs.Time.{clock, at}
 use Rattle.layout.specs.declared.Record.{Record}
 use Rattle.bursts.specs.Bus.{quiet-bus}
+use Rattle.rules.specs.declared.Refreshes.{Refreshes}
 use Rattle.rules.specs.declared.Refreshes.the-variants.{None}
 use Rattle.rules.specs.declared.Register.{Register}
 use Rattle.rules.specs.declared.Register.the-variants.{Unloaded, Loaded}
+use Rattle.rules.specs.declared.StartUp.{StartUp}
+use Rattle.rules.specs.declared.Status.{Status}
 use Rattle.rules.specs.declared.Status.the-variants.{NotStarted}
 use Rattle.rules.specs.declared.Bank.{Bank}
 use Rattle.rules.specs.declared.Core.{Core}
@@ -49,9 +52,17 @@ word-in (Loaded word n) = word
 abbrev pub word : Core → ℕ
 word c = word-in (c .startup .register)
 
+-- the steps of start-up: the last PRECHARGE ALL, the refreshes, the mode register
+abbrev pub startup-of : Event → Refreshes → Register → StartUp
+startup-of allclosed refreshes register = record { allclosed = allclosed; refreshes = refreshes; register = register }
+
+-- a bank: what it is, its last ACTIVE, and the last store after that
+abbrev pub bank-of : Status → Event → Event → Bank
+bank-of status active stored = record { status = status; active = active; stored = stored }
+
 -- a bank before the first PRECHARGE ALL, and what stands past the four
 abbrev pub no-bank : Bank
-no-bank = record { status = NotStarted; active = Never; stored = Never }
+no-bank = bank-of NotStarted Never Never
 
 -- before the first record: period, grade, watched bank and row
 abbrev pub start-core : Ps → ℕ → ℕ → ℕ → Core
@@ -63,7 +74,7 @@ start-core period grade bank row =
       row = row;
       number = 0;
       last = Never;
-      startup = record { allclosed = Never; refreshes = None; register = Unloaded };
+      startup = startup-of Never None Unloaded;
       bus = quiet-bus;
     }
 

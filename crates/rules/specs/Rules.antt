@@ -25,7 +25,7 @@ use Rattle.rules.specs.declared.State.{State}
 use Rattle.rules.specs.declared.Setup.{Setup}
 use Rattle.rules.specs.declared.Verdict.{Verdict}
 use Rattle.rules.specs.Numbers.{Rule, rule, first-broken, asked, _⇒_, tRCD, tRAS, tRC, tRP, tRRD, tRFC, tWR, tMRD}
-use Rattle.rules.specs.Parts.{clock-of, now, word, core-module}
+use Rattle.rules.specs.Parts.{clock-of, now, word-in, state-module}
 use Rattle.rules.specs.StartUp.{allowed, counted-refresh}
 use Rattle.rules.specs.Banks.{bank-at, every, open-within, banks-found}
 use Rattle.rules.specs.Minima.{Since, minima, met}
@@ -82,28 +82,50 @@ mode-rules k t m period r =
     ∷ rule 18 0 (is k LoadMode ⇒ by (tCK t (r .addr)) period)
     ∷ []
 
--- 19 to 22; `status` is that of the record's bank
-unfoldable pub bus-rules : Command → SpeedTable → Core → Status → Record → Clock → List Rule
-bus-rules k t c status r n =
-    rule 19 0 (access k || is k Terminate ⇒ bursts-finished (c .bus .write) (c .bus .reads) n)
-    ∷ rule 20 0 (is k Write ⇒ bus-clear (c .last) (c .bus .masks) (c .bus .reads) n)
-    ∷ rule 21 0 (asks-auto k r ⇒ ends-by-itself k (word c))
-    ∷ rule 22 0 (asks-auto k r ⇒ closes-within t (c .period) (burst-end k t (c .period) (word c) n) status)
+-- 19 to 22, in mode `word`: no auto precharge burst is unfinished on the record's clock n where `finished`, the data bus is clear for a
+-- WRITE on it where `clear`, and `status` is that of the record's bank
+unfoldable pub bus-rules : Command → SpeedTable → Ps → ℕ → Bool → Bool → Status → Record → Clock → List Rule
+bus-rules k t period word finished clear status r n =
+    rule 19 0 (access k || is k Terminate ⇒ finished)
+    ∷ rule 20 0 (is k Write ⇒ clear)
+    ∷ rule 21 0 (asks-auto k r ⇒ ends-by-itself k word)
+    ∷ rule 22 0 (asks-auto k r ⇒ closes-within t period (burst-end k t period word n) status)
     ∷ []
 
+-- what the rows read of the records before, for a record on one clock; who keeps a state finds it there, who keeps none looks back
+pub record Found : Type 0 where
+  pub startup : StartUp
+  pub banks : List Bank
+  -- 19 and 20: no auto precharge burst is unfinished, and the data bus is clear for a WRITE
+  pub finished : Bool
+  pub clear : Bool
+
 -- 14 to 22
-unfoldable pub command-rules : Command → SpeedTable → Core → List Bank → Record → Clock → Ps → List Rule
-command-rules k t c bs r n moment =
-    place-rules k (c .startup) bs r moment
-    ++ (minimum-rules t (c .period) moment (minima k (c .period) (c .startup) r bs)
-    ++ (mode-rules k t (core-module c) (c .period) r ++ bus-rules k t c (bank-at bs (r .ba) .status) r n))
+unfoldable pub command-rules : Command → SpeedTable → Module → Ps → Found → Record → Clock → Ps → List Rule
+command-rules k t m period f r n moment =
+    place-rules k (f .startup) (f .banks) r moment
+    ++ (minimum-rules t period moment (minima k period (f .startup) r (f .banks))
+    ++ (mode-rules k t m period r
+    ++ bus-rules k t period (word-in (f .startup .register)) (f .finished) (f .clear) (bank-at (f .banks) (r .ba) .status) r n))
 
 -- "12 and 13 are tried on every record, NOP and COMMAND INHIBIT included, 14 to 22 only on executable commands"
-unfoldable pub rules : SpeedTable → Core → List Bank → Record → Clock → Ps → List Rule
-rules t c bs r n moment =
-    every-rules t (c .period) (c .startup .refreshes) bs r n moment
-    ++ asked (executable (command r)) (command-rules (command r) t c bs r n moment)
+unfoldable pub rules : SpeedTable → Module → Ps → Found → Record → Clock → Ps → List Rule
+rules t m period f r n moment =
+    every-rules t period (f .startup .refreshes) (f .banks) r n moment
+    ++ asked (executable (command r)) (command-rules (command r) t m period f r n moment)
+
+-- what the state's core and banks give the rows of a record on clock n
+abbrev pub found : Core → List Bank → Clock → Found
+found c bs n =
+    record {
+      startup = c .startup;
+      banks = bs;
+      finished = bursts-finished (c .bus .write) (c .bus .reads) n;
+      clear = bus-clear (c .last) (c .bus .masks) (c .bus .reads) n;
+    }
 
 -- may this record stand here?
 unfoldable pub ask : Setup → State → Record → Verdict
-ask u s r = first-broken (rules (u .table) (s .core) (s .banks) r (clock-of (s .core) r) (now (s .core) r))
+ask u s r =
+    let n = clock-of (s .core) r in
+    first-broken (rules (u .table) (state-module s) (s .core .period) (found (s .core) (s .banks) n) r n (now (s .core) r))

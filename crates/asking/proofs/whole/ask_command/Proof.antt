@@ -14,51 +14,51 @@ use Rattle.asking.proofs.commands.ask_burst.Reads as ask-burst-reads
 use Rattle.layout.proofs.code_of.Reads as code-of-reads
 use Rattle.layout.proofs.is_executable.Reads as is-executable-reads
 
--- src/whole.rt:32:9
+-- src/whole.rt:33:9
 code-of-requires : tie.Need-code-of-requires
 code-of-requires c κs = search needs
 
--- src/whole.rt:34:9
+-- src/whole.rt:35:9
 ask-banks-requires : tie.Need-ask-banks-requires
 ask-banks-requires c κs = search needs
 
--- src/whole.rt:34:9
+-- src/whole.rt:35:9
 returns : tie.Need-returns
 returns c = rw (lt-ltb (code-of (c .before .before .before .args .k)) 7 (omega (arith, c .before .before .code-of .ensures, c .before .if1 .taken))) (c .ask-banks .ensures)
 
--- src/whole.rt:36:19
+-- src/whole.rt:37:19
 cast-own : tie.Need-cast-own
 cast-own c = search needs
 
--- src/whole.rt:36:15
+-- src/whole.rt:37:15
 mul-own : tie.Need-mul-own
 mul-own c = search needs
 
--- src/whole.rt:36:15
+-- src/whole.rt:37:15
 array-copy-out-own : tie.Need-array-copy-out-own
 array-copy-out-own c = search needs
 
--- src/whole.rt:38:9
+-- src/whole.rt:39:9
 ask-active-requires : tie.Need-ask-active-requires
 ask-active-requires c κs = search needs
 
--- src/whole.rt:38:9
+-- src/whole.rt:39:9
 returns-2 : tie.Need-returns-2
 returns-2 c = rw (coded (c .before .before .before .before .before .before .args .k) 3 (sym (c .before .before .before .before .before .code-of .ensures) ∙ c .before .if2 .taken)) (c .ask-active .ensures)
 
--- src/whole.rt:40:8
+-- src/whole.rt:41:8
 is-executable-requires : tie.Need-is-executable-requires
 is-executable-requires c κs = search needs
 
--- src/whole.rt:41:9
+-- src/whole.rt:42:9
 ask-burst-requires : tie.Need-ask-burst-requires
 ask-burst-requires c κs = (c .before .before .before .before .before .before .before .pre .0, refl, omega (arith, c .before .before .before .before .before .before .code-of .ensures, c .before .before .before .before .before .if1 .left, c .before .before .if2 .left), ltb-true (code-of (c .before .before .before .before .before .before .before .args .k)) 7 (sym (c .before .is-executable .ensures) ∙ c .if3 .taken), c .before .before .before .before .before .before .before .pre .1)
 
--- src/whole.rt:41:9
+-- src/whole.rt:42:9
 returns-3 : tie.Need-returns-3
 returns-3 c = rw (sym (c .before .before .is-executable .ensures) ∙ c .before .if3 .taken) (c .ask-burst .ensures)
 
--- src/whole.rt:20:1
+-- src/whole.rt:21:1
 returns-4 : tie.Need-returns-4
 returns-4 c = rw (sym (c .before .is-executable .ensures) ∙ c .if3 .left)
 

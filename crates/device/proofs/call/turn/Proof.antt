@@ -1,5 +1,5 @@
 use mathlib.Core.Path.{sym, _∙_}
-use Rattle.rules.proofs.Stays.{clock-kept}
+use Rattle.rules.proofs.Rows.{clock-kept}
 use Rattle.device.proofs.Turns.{turn-taken, turn-refused}
 use borrow.Author.Needs.{needs}
 use Rattle.device.proofs.call.turn.Statement.{statement}

@@ -33,7 +33,7 @@ use Rattle.rules.specs.Closing.{burst-end}
 use Rattle.rules.specs.Rules.{clock-max, ask}
 use Rattle.rules.specs.After.{startup-after, commanded}
 use Rattle.rules.specs.Report.{fold}
-use Rattle.rules.proofs.Stays.{clock-kept}
+use Rattle.rules.proofs.Rows.{clock-kept}
 use Rattle.parts.specs.Reach.{Reach, Able, Call}
 use Rattle.parts.proofs.Times.{clock-reach}
 use Rattle.packed.specs.Packed.{banks-in, Held, Packed}
