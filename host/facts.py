@@ -3,7 +3,7 @@
 Someone who changes the definition and the code together meets no failing code proof. Only facts stop him: the tables of cases that the
 checker computes (`*Cases`, `Printed`), and the laws. So this run works on copies of the crates that have no code and no code proofs. Of
 src/ a copy has the structs and enums that the definitions speak of. Of specs/ it has every file. For an edit with a line `law`, the copy
-has that law, and those it cites, in place of the tables.
+has that law, and those it cites, in place of the tables; of these it has what the laws cite.
 
 An edit is made in a copy. The edited crate is checked first, then each crate above it, up to the first refusal. A crate is checked with
 each table that uses no other, then with all of them: most edits need no more than the first. An edit is
@@ -38,6 +38,7 @@ TYPE = re.compile(r"^pub (?:struct|enum) (?:[^\n{]*;|[^\n{]*\{\n(?:.*\n)*?\})\n"
 USE = re.compile(r"^use (\w+)::(\w+);\n", re.M)
 LAW = re.compile(r"^use Rattle·(\w+)(?:·proofs)?\.proofs\.(\w+)", re.M)
 OWN = re.compile(r"^use Rattle·\w+·specs\.specs\.(\w+)", re.M)
+SPEC = re.compile(r"^use Rattle·(\w+?)(?:·specs)?\.specs\.(\w+)", re.M)
 
 
 def read(*parts):
@@ -112,6 +113,21 @@ def laws_for(every):
     return laws
 
 
+def tables_for(laws):
+    """The tables that these laws use, and those that those use, as pairs of crate and file."""
+    cited = [used for crate, name in laws for used in SPEC.findall(read(crate, "proofs", name + ".antt")) if TABLE.search(used[1])]
+    found = list(dict.fromkeys(cited))
+    for crate, name in found:
+        found += [used for used in SPEC.findall(read(crate, "specs", name + ".antt")) if TABLE.search(used[1]) and used not in found]
+    return found
+
+
+def kept(crate, laws):
+    """The tables of a crate that a copy with laws has, in the crate's own order."""
+    cited = tables_for(laws)
+    return [name for name in tables(crate)[-1] if (crate, name) in cited]
+
+
 def put(place, crate, folder, names):
     """Writes these files of a crate to the copy, and no others."""
     shutil.rmtree(os.path.join(place, "crates", crate, folder), ignore_errors=True)
@@ -127,7 +143,7 @@ def stripped(place, laws):
     shutil.rmtree(os.path.join(place, "crates"), ignore_errors=True)
     order = ""
     for c in crates():
-        own = {"specs": plain(c) + ([] if laws else tables(c)[-1]), "proofs": [name for crate, name in laws if crate == c]}
+        own = {"specs": plain(c) + (kept(c, laws) if laws else tables(c)[-1]), "proofs": [name for crate, name in laws if crate == c]}
         write(types(c), place, "crates", c, "src", "lib.rt")
         for folder, names in own.items():
             put(place, c, folder, names)
@@ -217,11 +233,11 @@ def judged(e, text):
     return "held", ", ".join(dict.fromkeys(told))
 
 
-def refused(e, place, done):
+def refused(e, place, laws, done):
     """The verdict on the edit: crate after crate from its own on, each with one table at a time, then with all."""
     for c in above(place, e.crate):
         done.append(c)
-        for names in [[]] if e.law else tables(c):
+        for names in [kept(c, laws)] if e.law else tables(c):
             put(place, c, "specs", plain(c) + names)
             if c == e.crate:
                 write(e.applied(read(e.file)), place, "crates", e.file)
@@ -236,7 +252,7 @@ def tried(e, pair):
     start, done, copy = time.time(), [], pair[1 if e.law else 0]
     copy.make()
     try:
-        verdict, where = refused(e, copy.place, done)
+        verdict, where = refused(e, copy.place, copy.base.laws, done)
     except subprocess.TimeoutExpired:
         verdict, where = "misfit", "no verdict in %d seconds" % SECONDS
     copy.put_back(done)

@@ -196,7 +196,7 @@ def main():
         (r"(\w+) inner crates", len(set(asking))),
         (r"(\w+) exceptions", len(asking)),
         (r"(\w+) small traces", len(glob.glob(os.path.join(ROOT, "examples/*.trace")))),
-        (r"(\w+) wrong edits of `host/mutations", len(re.findall(r"^why:", text_of("host/mutations.txt"), re.M))),
+        (r"([\w,]+) wrong edits of `host/mutations", len(re.findall(r"^why:", text_of("host/mutations.txt"), re.M))),
     ]
     papers = [Paper(p) for p in PAPERS]
     for p in papers:

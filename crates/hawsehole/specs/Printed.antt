@@ -82,10 +82,10 @@ printed-lines =
     ∷ []
 
 -- a page of FF, with these bytes of column 4's lanes 0 to 3 and of column 5
-abbrev page-with : List ℕ → List ℕ → List ℕ
+abbrev pub page-with : List ℕ → List ℕ → List ℕ
 page-with fourth fifth = replicate 32 255 ++ fourth ++ replicate 4 255 ++ fifth ++ replicate 16336 255
 
-abbrev clean : List ℕ → Judged
+abbrev pub clean : List ℕ → Judged
 clean page = record { verdict = Taken; reported = 8; lines = printed-lines; page = page }
 
 -- THE PRINTED CASE: "DQ bits not named are 0", over a page of FF so that each stored byte shows
