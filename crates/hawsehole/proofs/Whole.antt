@@ -13,7 +13,7 @@ use Rattle.rules.specs.declared.Verdict.the-variants.{Taken, Refused}
 use Rattle.rules.specs.Numbers.{first-broken}
 use Rattle.rules.specs.Run.{Line, page-after}
 use Rattle.rules.proofs.Runs.{reports}
-use Rattle.hawsehole.specs.Trace.{Judged, trace-rules, start-of, records, run-of, page-of, judged, refused, judge, page-when}
+use Rattle.hawsehole.specs.Trace.{Judged, trace-rules, start-of, records, run-of, page-of, judged, refused, judged-by, judge, page-when}
 
 -- what is found before the first record
 abbrev pub entry : Setup → List ℕ → List ℕ → Verdict
@@ -21,12 +21,12 @@ entry u trace page = first-broken (trace-rules u trace (length page))
 
 pub judge-entered : (u : Setup) (trace page : List ℕ) → entry u trace page ≡ Taken → judge u trace page ≡ judged trace page (run-of u trace)
 unfolding judge
-judge-entered u trace page p = rw (p, judge)
+judge-entered u trace page p = rw (p, judged-by)
 
 -- 1 TO 7 LEAVE THE PAGE AND REPORT RECORD 0
 pub judge-refused : (u : Setup) (trace page : List ℕ) (n i : ℕ) → entry u trace page ≡ Refused n i → judge u trace page ≡ refused n i page
 unfolding judge
-judge-refused u trace page n i p = rw (p, judge)
+judge-refused u trace page n i p = rw (p, judged-by)
 
 -- what holds of the judge, shown by what is found before the first record
 pub by-entry : (P : Judged → Type 0) (u : Setup) (trace page : List ℕ)

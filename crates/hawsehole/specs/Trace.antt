@@ -75,12 +75,16 @@ judged trace page v =
 abbrev pub refused : ℕ → ℕ → List ℕ → Judged
 refused n i page = record { verdict = Refused n i; reported = 0; lines = []; page = page }
 
-unfoldable pub judge : Setup → List ℕ → List ℕ → Judged
-judge u trace page =
+-- 1 to 7, then what this run of its records leaves
+abbrev pub judged-by : Setup → List ℕ → List ℕ → Run → Judged
+judged-by u trace page v =
     elim (first-broken (trace-rules u trace (length page))) [
-      | Taken ↦ judged trace page (run-of u trace)
+      | Taken ↦ judged trace page v
       | Refused n i ↦ refused n i page
     ]
+
+unfoldable pub judge : Setup → List ℕ → List ℕ → Judged
+judge u trace page = judged-by u trace page (run-of u trace)
 
 -- the page when the first k records were taken
 abbrev pub page-when : Setup → List ℕ → List ℕ → ℕ → List ℕ

@@ -88,12 +88,15 @@ module _ (u : Setup) (period : Ps) (grade bank row : ℕ) where
   unfolding bursts-finished finished finished-in write-back reads-back
   same-finished [] k n h = refl
   same-finished (r ∷ past) k n h =
-      go (writes r) (reads r) refl refl (same-finished past (k .1) n (omega arith)) (same-finished past (k .1) x (omega arith)) kept
+      go (writes r) (reads r) refl refl (same-finished past (k .1) n (omega arith))
+      (same-finished past (k .1) x (omega arith)) kept
     where
       x : Clock
       x = clock-in past r
 
-      kept : (access (command r) || is (command r) Terminate ⇒ bursts-finished (write-back uncut past) (held past) (clock-in past r)) ≡ true
+      kept :
+          (access (command r) || is (command r) Terminate
+          ⇒ bursts-finished (write-back uncut past) (held past) (clock-in past r)) ≡ true
       kept =
           let d = tied u period grade bank row past (k .1) in
           let s = state-in (u .table) period grade bank row past in
@@ -106,17 +109,21 @@ module _ (u : Setup) (period : Ps) (grade bank row : ℕ) where
           → (y || v || is (command r) Terminate ⇒ bursts-finished (write-back uncut past) (held past) (clock-in past r)) ≡ true
           → bursts-finished (cond v (registered uncut r past) (write-back (cuts-from r past uncut) past))
           (take 4
-          (cond v [] (cond y (registered uncut r past ∷ reads-back (cuts-from r past uncut) past) (reads-back (cuts-from r past uncut) past))
+          (cond v []
+          (cond y (registered uncut r past ∷ reads-back (cuts-from r past uncut) past) (reads-back (cuts-from r past uncut) past))
           ++ no-reads))
           n
-          ≡ (((y || v) && a10 r ⇒ leb (clock-in past r .0 + cond v (write-length (mode-in past)) (length-of (mode-in past))) (n .0))
+          ≡ (((y || v) && a10 r
+          ⇒ leb (clock-in past r .0 + cond v (write-length (mode-in past)) (length-of (mode-in past))) (n .0))
           && finished-in n past)
       go true y e f now then g =
           let b = sym then ∙ guarded (y || true) (is (command r) Terminate) _ (or-true y) g in
-          rw (or-true, finished-later x n past (omega arith) b, own-finished (a10 r) (leb (x .0 + write-length (mode-in past)) (n .0)))
+          let l = x .0 + write-length (mode-in past) in
+          rw (or-true, finished-later x n past (omega arith) b, own-finished (a10 r) (leb l (n .0)))
       go false true e f now then g =
           let b = finished-later x n past (omega arith) (sym then ∙ g) in
-          let q = both (finished (write-length (write-back uncut past .word)) n (write-back uncut past)) (reads-finished n (held past)) (now ∙ b) in
+          let w = write-back uncut past in
+          let q = both (finished (write-length (w .word)) n w) (reads-finished n (held past)) (now ∙ b) in
           rw (
             write-cut (cuts-from r past uncut) past n,
             q .0,
@@ -125,4 +132,5 @@ module _ (u : Setup) (period : Ps) (grade bank row : ℕ) where
             b,
             own-finished (a10 r) (leb (x .0 + length-of (mode-in past)) (n .0)),
           )
-      go false false e f now then g = rw (write-cut (cuts-from r past uncut) past n, reads-cut (cuts-from r past uncut) 4 n past) now
+      go false false e f now then g =
+          rw (write-cut (cuts-from r past uncut) past n, reads-cut (cuts-from r past uncut) 4 n past) now

@@ -1,4 +1,4 @@
--- The whole traces of the tables of `rules`, P1 to P12 among them, and the printed case from its bytes, by looking back. Assumes nothing.
+-- By looking back: the whole traces of the tables of `rules`, P1 to P12 among them, and the printed case from its bytes.
 use Prim.Native.Nat.{ℕ}
 use mathlib.Core.Path.{_≡_, refl}
 use mathlib.Core.List.{List, [], _∷_}
@@ -43,7 +43,8 @@ look-right = (refl, refl, refl)
 
 -- THE PRINTED CASE, from its 144 bytes, over a page of FF; 7 where the page is a byte short
 pub printed-back :
-    (look-judge with-133 (bytes (8 ∷ 7 ∷ 6 ∷ 5 ∷ 4 ∷ 3 ∷ 2 ∷ 1 ∷ []) (24 ∷ 23 ∷ 22 ∷ 21 ∷ 20 ∷ 19 ∷ 18 ∷ 17 ∷ [])) (replicate 16384 255)
+    (look-judge with-133 (bytes (8 ∷ 7 ∷ 6 ∷ 5 ∷ 4 ∷ 3 ∷ 2 ∷ 1 ∷ []) (24 ∷ 23 ∷ 22 ∷ 21 ∷ 20 ∷ 19 ∷ 18 ∷ 17 ∷ []))
+    (replicate 16384 255)
     ≡ clean (page-with (17 ∷ 18 ∷ 19 ∷ 20 ∷ []) (1 ∷ 2 ∷ 3 ∷ 4 ∷ 5 ∷ 6 ∷ 7 ∷ 8 ∷ [])))
     × (look-judge with-133 (bytes (replicate 8 0) (replicate 8 0)) (replicate 16383 255) ≡ refused 7 0 (replicate 16383 255))
 unfolding module-of column-on has-pins lane-masks whole-rules lent-rules table-fits header-from read-header record-from records-of length-of beat-column put-lanes stored page-after allowed banks-found of-closing of-any of-active of-access of-precharged of-precharge of-idle events minima every-rules place-rules minimum-rules mode-rules bus-rules command-rules rules masks-at write-on read-on finished-in beat-in stored-in drives-in clear-in look look-run look-judge

@@ -33,7 +33,8 @@ each-later c [] = []
 each-later c (b ∷ bs) = cut-later c b ∷ each-later c bs
 
 first-three : (l : Bool) (e d : Event) (x : Bool) (n : Clock)
-    → cond l (first e (cond x (On n) d)) e ≡ cond l (first (cond l (first e (cond x (On n) Never)) e) d) (cond l (first e (cond x (On n) Never)) e)
+    → cond l (first e (cond x (On n) d)) e
+    ≡ cond l (first (cond l (first e (cond x (On n) Never)) e) d) (cond l (first e (cond x (On n) Never)) e)
 first-three false e d x n = refl
 first-three true (On y) d x n = refl
 first-three true Never d true n = refl
@@ -41,9 +42,11 @@ first-three true Never d false n = refl
 
 module _ (c : ℕ → Event) (r : Record) (past : List Record) where
   later-later : (b : Burst) → cut-later (cuts-from r past c) b ≡ cut-later c (cut-later (cuts-from r past uncut) b)
-  later-later b = ap (λ (e : Event). with-cut e b) (first-three (b .live) (b .cut) (c (b .bank)) (cuts-write (b .bank) r) (clock-in past r))
+  later-later b =
+      ap (λ (e : Event). with-cut e b) (first-three (b .live) (b .cut) (c (b .bank)) (cuts-write (b .bank) r) (clock-in past r))
 
-  each-later-later : (bs : List Burst) → each-later (cuts-from r past c) bs ≡ each-later c (each-later (cuts-from r past uncut) bs)
+  each-later-later : (bs : List Burst)
+      → each-later (cuts-from r past c) bs ≡ each-later c (each-later (cuts-from r past uncut) bs)
   each-later-later [] = refl
   each-later-later (b ∷ bs) = ap₂ (λ (x : Burst) (y : List Burst). x ∷ y) (later-later b) (each-later-later bs)
 
@@ -72,7 +75,8 @@ reads-later c (r ∷ past) =
     go : (x y : Bool) → reads-back (cuts-from r past c) past ≡ each-later c (reads-back (cuts-from r past uncut) past)
         → cond x [] (cond y (registered c r past ∷ reads-back (cuts-from r past c) past) (reads-back (cuts-from r past c) past))
         ≡ each-later c
-        (cond x [] (cond y (registered uncut r past ∷ reads-back (cuts-from r past uncut) past) (reads-back (cuts-from r past uncut) past)))
+        (cond x []
+        (cond y (registered uncut r past ∷ reads-back (cuts-from r past uncut) past) (reads-back (cuts-from r past uncut) past)))
     go true y rest = refl
     go false true rest = ap (λ (l : List Burst). registered c r past ∷ l) rest
     go false false rest = rest
@@ -110,25 +114,30 @@ module _ (x : ℕ) (c : ℕ → Event) (r : Record) (past : List Record) (h : fi
   registered-placed : Placed x (registered c r past)
   registered-placed live = (omega arith, g (r .ba))
 
-pub write-placed : (x : ℕ) (c : ℕ → Event) (past : List Record) → first-free past ≤ x → ((i : ℕ) → Inside (first-free past) x (c i))
+pub write-placed : (x : ℕ) (c : ℕ → Event) (past : List Record) → first-free past ≤ x
+    → ((i : ℕ) → Inside (first-free past) x (c i))
     → Placed x (write-back c past)
 unfolding write-back
 write-placed x c [] h g = λ live. absurd (true≢false (sym live))
-write-placed x c (r ∷ past) h g = go (writes r) (write-placed x (cuts-from r past c) past (omega arith) (inside-back x c r past h g))
+write-placed x c (r ∷ past) h g =
+    go (writes r) (write-placed x (cuts-from r past c) past (omega arith) (inside-back x c r past h g))
   where
     go : (f : Bool) → Placed x (write-back (cuts-from r past c) past)
         → Placed x (cond f (registered c r past) (write-back (cuts-from r past c) past))
     go true rest = registered-placed x c r past h g
     go false rest = rest
 
-pub reads-placed : (x : ℕ) (c : ℕ → Event) (past : List Record) → first-free past ≤ x → ((i : ℕ) → Inside (first-free past) x (c i))
+pub reads-placed : (x : ℕ) (c : ℕ → Event) (past : List Record) → first-free past ≤ x
+    → ((i : ℕ) → Inside (first-free past) x (c i))
     → AllPlaced x (reads-back c past)
 unfolding reads-back
 reads-placed x c [] h g = tt
-reads-placed x c (r ∷ past) h g = go (writes r) (reads r) (reads-placed x (cuts-from r past c) past (omega arith) (inside-back x c r past h g))
+reads-placed x c (r ∷ past) h g =
+    go (writes r) (reads r) (reads-placed x (cuts-from r past c) past (omega arith) (inside-back x c r past h g))
   where
     go : (f y : Bool) → AllPlaced x (reads-back (cuts-from r past c) past)
-        → AllPlaced x (cond f [] (cond y (registered c r past ∷ reads-back (cuts-from r past c) past) (reads-back (cuts-from r past c) past)))
+        → AllPlaced x
+        (cond f [] (cond y (registered c r past ∷ reads-back (cuts-from r past c) past) (reads-back (cuts-from r past c) past)))
     go true y rest = tt
     go false true rest = (registered-placed x c r past h g, rest)
     go false false rest = rest

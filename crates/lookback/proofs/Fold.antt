@@ -32,7 +32,8 @@ module _ (u : Setup) (period : Ps) (grade bank row : ℕ) where
   at-first-free [] = refl
   at-first-free (r ∷ past) = ap (λ (x : ℕ). suc (x + r .skipped)) (at-first-free past)
 
-  pub same-clock : (past : List Record) (r : Record) → clock-of (after u (start period grade bank row) past .core) r ≡ clock-in past r
+  pub same-clock : (past : List Record) (r : Record)
+      → clock-of (after u (start period grade bank row) past .core) r ≡ clock-in past r
   same-clock past r = ap (λ (x : ℕ). clock (x + r .skipped)) (at-first-free past)
 
   pub same-last : (past : List Record) → after u (start period grade bank row) past .core .last ≡ newest past
@@ -56,37 +57,46 @@ counts-on f x (r ∷ past) = go (f r) (counts-on f x past)
     two false y = refl
 
     go : (b : Bool) → one-more x (refreshes-by (count-of f past) (last-of f past)) ≡ refreshes-by (suc (count-of f past)) (On x)
-        → one-more x (refreshes-by (cond b (suc (count-of f past)) (count-of f past)) (newest (cond b (r ∷ past) (back-to f past))))
+        → one-more x
+        (refreshes-by (cond b (suc (count-of f past)) (count-of f past)) (newest (cond b (r ∷ past) (back-to f past))))
         ≡ refreshes-by (suc (cond b (suc (count-of f past)) (count-of f past))) (On x)
-    go true h = two (ltb (suc (count-of f past)) 2) (clock-in past r) ∙ sym (ap (λ (z : Bool). cond z (One x) (Two x)) (more-than-one (count-of f past)))
+    go true h =
+        two (ltb (suc (count-of f past)) 2) (clock-in past r)
+        ∙ sym (ap (λ (z : Bool). cond z (One x) (Two x)) (more-than-one (count-of f past)))
     go false h = h
 
 refreshes-step : (r : Record) (past : List Record)
     → cond (refreshes r) (one-more (clock-in past r) (refreshes-in past)) (refreshes-in past) ≡ refreshes-in (r ∷ past)
 refreshes-step r past = go (refreshes r) (counts-on refreshes (clock-in past r) past)
   where
-    go : (b : Bool) → one-more (clock-in past r) (refreshes-in past) ≡ refreshes-by (suc (count-of refreshes past)) (On (clock-in past r))
+    go : (b : Bool)
+        → one-more (clock-in past r) (refreshes-in past) ≡ refreshes-by (suc (count-of refreshes past)) (On (clock-in past r))
         → cond b (one-more (clock-in past r) (refreshes-in past)) (refreshes-in past)
-        ≡ refreshes-by (cond b (suc (count-of refreshes past)) (count-of refreshes past)) (newest (cond b (r ∷ past) (back-to refreshes past)))
+        ≡ refreshes-by (cond b (suc (count-of refreshes past)) (count-of refreshes past))
+        (newest (cond b (r ∷ past) (back-to refreshes past)))
     go true h = h
     go false h = refl
 
 -- the last of a kind, one record more
-pub last-step : (f : Record → Bool) (r : Record) (past : List Record) → cond (f r) (On (clock-in past r)) (last-of f past) ≡ last-of f (r ∷ past)
+pub last-step : (f : Record → Bool) (r : Record) (past : List Record)
+    → cond (f r) (On (clock-in past r)) (last-of f past) ≡ last-of f (r ∷ past)
 last-step f r past = go (f r)
   where
     go : (b : Bool) → cond b (On (clock-in past r)) (last-of f past) ≡ newest (cond b (r ∷ past) (back-to f past))
     go true = refl
     go false = refl
 
-register-step : (r : Record) (past : List Record) → cond (loads r) (Loaded (r .addr) (clock-in past r)) (register-in past) ≡ register-in (r ∷ past)
+register-step : (r : Record) (past : List Record)
+    → cond (loads r) (Loaded (r .addr) (clock-in past r)) (register-in past) ≡ register-in (r ∷ past)
 register-step r past = go (loads r)
   where
-    go : (b : Bool) → cond b (Loaded (r .addr) (clock-in past r)) (register-in past) ≡ loaded-by (cond b (r ∷ past) (back-to loads past))
+    go : (b : Bool)
+        → cond b (Loaded (r .addr) (clock-in past r)) (register-in past) ≡ loaded-by (cond b (r ∷ past) (back-to loads past))
     go true = refl
     go false = refl
 
-pub startup-step : (r : Record) (past : List Record) → startup-after (command r) r (clock-in past r) (startup-in past) ≡ startup-in (r ∷ past)
+pub startup-step : (r : Record) (past : List Record)
+    → startup-after (command r) r (clock-in past r) (startup-in past) ≡ startup-in (r ∷ past)
 unfolding startup-after
 startup-step r past =
     λ i. record {

@@ -61,10 +61,12 @@ gone-cond s x false n e h k g = g
 gone-back : (x : ℕ) (c : ℕ → Event) (r : Record) (past : List Record) → ((i : ℕ) → Gone (clock-in past r .0) x (c i))
     → (s : ℕ) → s < first-free past → (i : ℕ) → Gone s x (cuts-from r past c i)
 gone-back x c r past g s h i =
-    gone-cond s x (cuts-write i r) (clock-in past r) (c i) (omega arith) (omega (arith, gone-least (clock-in past r .0) x (c i) (g i)))
+    gone-cond s x (cuts-write i r) (clock-in past r) (c i) (omega arith)
+    (omega (arith, gone-least (clock-in past r .0) x (c i) (g i)))
     (gone-from s (clock-in past r .0) x (c i) (omega arith) (g i))
 
-pub back-gone : (x : ℕ) (c : ℕ → Event) (past : List Record) → Words past → ((s : ℕ) → s < first-free past → (i : ℕ) → Gone s x (c i))
+pub back-gone : (x : ℕ) (c : ℕ → Event) (past : List Record) → Words past
+    → ((s : ℕ) → s < first-free past → (i : ℕ) → Gone s x (c i))
     → AllGone x (reads-back c past)
 unfolding reads-back
 back-gone x c [] w g = tt
@@ -73,7 +75,8 @@ back-gone x c (r ∷ past) w g =
     (back-gone x (cuts-from r past c) past (w .1) (gone-back x c r past (g (clock-in past r .0) (omega arith))))
   where
     go : (f y : Bool) → AllGone x (reads-back (cuts-from r past c) past)
-        → AllGone x (cond f [] (cond y (registered c r past ∷ reads-back (cuts-from r past c) past) (reads-back (cuts-from r past c) past)))
+        → AllGone x
+        (cond f [] (cond y (registered c r past ∷ reads-back (cuts-from r past c) past) (reads-back (cuts-from r past c) past)))
     go true y rest = tt
     go false true rest = ((g (clock-in past r .0) (omega arith) (r .ba), w .0), rest)
     go false false rest = rest
@@ -94,7 +97,8 @@ back-ordered x c (r ∷ past) h w =
 
     go : (f y : Bool) → reads r ≡ y → Ordered x (reads-back (cuts-from r past c) past)
         → Ordered (clock-in past r .0) (reads-back (cuts-from r past c) past)
-        → Ordered x (cond f [] (cond y (registered c r past ∷ reads-back (cuts-from r past c) past) (reads-back (cuts-from r past c) past)))
+        → Ordered x
+        (cond f [] (cond y (registered c r past ∷ reads-back (cuts-from r past c) past) (reads-back (cuts-from r past c) past)))
     go true y e rest tail = tt
     go false true e rest tail = ((omega arith, back-gone (clock-in past r .0) (cuts-from r past c) past (w .1) (gone e)), tail)
     go false false e rest tail = rest
@@ -114,7 +118,8 @@ module _ (b : Burst) (x : ℕ) (g : Gone (b .start .0) x (b .cut)) where
   module _ (k : latency (b .word) ≤ 3) (n : Clock) (h : x + 3 ≤ n .0) where
     gone-quiet : reads-on b n ≡ false
     gone-quiet =
-        rw (no-beat (length-of (b .word)) (full-page (b .word)) (clock (n .0 - latency (b .word))) (omega (arith, k, h)), and-false)
+        let m = clock (n .0 - latency (b .word)) in
+        rw (no-beat (length-of (b .word)) (full-page (b .word)) m (omega (arith, k, h)), and-false)
 
     -- nor on a later clock
     gone-over : to-come n b ≡ false
@@ -132,13 +137,15 @@ all-quiet [] masks n x g k = refl
 all-quiet (b ∷ bs) masks n x g k = rw (gone-quiet b x (g .0 .0) (g .0 .1) n k) (all-quiet bs masks n x (g .1) k)
 
 -- four are enough
-enough : (bs : List Burst) (masks : ℕ) (n : Clock) (x : ℕ) → Ordered x bs → x ≤ n .0 + 1 → latest-beat bs masks n ≡ latest-beat (take 4 bs) masks n
+enough : (bs : List Burst) (masks : ℕ) (n : Clock) (x : ℕ) → Ordered x bs → x ≤ n .0 + 1
+    → latest-beat bs masks n ≡ latest-beat (take 4 bs) masks n
 enough [] masks n x o h = refl
 enough (a ∷ []) masks n x o h = refl
 enough (a ∷ b ∷ []) masks n x o h = refl
 enough (a ∷ b ∷ c ∷ []) masks n x o h = refl
 enough (a ∷ b ∷ c ∷ d ∷ bs) masks n x o h =
-    rw (all-quiet bs masks n (d .start .0) (o .1 .1 .1 .0 .1) (omega (arith, o .0 .0, o .1 .0 .0, o .1 .1 .0 .0, o .1 .1 .1 .0 .0)))
+    rw (all-quiet bs masks n (d .start .0) (o .1 .1 .1 .0 .1)
+    (omega (arith, o .0 .0, o .1 .0 .0, o .1 .1 .0 .0, o .1 .1 .1 .0 .0)))
 
 -- an empty place has no beat
 empty-quiet : (n : Clock) → reads-on no-burst n ≡ false
@@ -153,7 +160,8 @@ none-quiet (suc (suc (suc zero))) masks n = rw (empty-quiet n)
 none-quiet (suc (suc (suc (suc zero)))) masks n = rw (empty-quiet n)
 none-quiet (suc (suc (suc (suc (suc k))))) masks n = rw (empty-quiet n)
 
-padded : (k : ℕ) (bs : List Burst) (masks : ℕ) (n : Clock) → latest-beat (take k (bs ++ no-reads)) masks n ≡ latest-beat (take k bs) masks n
+padded : (k : ℕ) (bs : List Burst) (masks : ℕ) (n : Clock)
+    → latest-beat (take k (bs ++ no-reads)) masks n ≡ latest-beat (take k bs) masks n
 padded zero bs masks n = refl
 padded (suc k) [] masks n = none-quiet (suc k) masks n
 padded (suc k) (b ∷ bs) masks n = ap (cond (reads-on b n) (read-beat b masks n)) (padded k bs masks n)
@@ -177,7 +185,8 @@ falling-take (suc k) x (b ∷ bs) f = (f .0, falling-take k (b .start .0) bs (f 
 later-none : (y : Clock) (x : ℕ) (bs : List Burst) (n : Clock) → x ≤ y .0 → Falling x bs → later-run y bs n ≡ false
 later-none y x [] n h f = refl
 later-none y x (b ∷ bs) n h f =
-    rw (le-ltb (y .0) (b .start .0) (omega (arith, f .0)), and-false) (later-none y (b .start .0) bs n (omega (arith, f .0)) (f .1))
+    rw (le-ltb (y .0) (b .start .0) (omega (arith, f .0)), and-false)
+    (later-none y (b .start .0) bs n (omega (arith, f .0)) (f .1))
 
 first-runs : (x : ℕ) (bs : List Burst) (masks : ℕ) (n : Clock) → Falling x bs → reads-beat bs masks n ≡ latest-beat bs masks n
 first-runs x [] masks n f = refl
@@ -191,12 +200,14 @@ pub held-beat : (past : List Record) (masks : ℕ) (n : Clock) → Words past �
 held-beat past masks n w h =
     let o = back-ordered (first-free past) uncut past (omega arith) w in
     first-runs (first-free past) (held past) masks n
-    (falling-take 4 (first-free past) (reads-back uncut past ++ no-reads) (falling-join (first-free past) (reads-back uncut past) o))
+    (falling-take 4 (first-free past) (reads-back uncut past ++ no-reads)
+    (falling-join (first-free past) (reads-back uncut past) o))
     ∙ (padded 4 (reads-back uncut past) masks n ∙ sym (enough (reads-back uncut past) masks n (first-free past) o h))
 
 -- ── The fourth makes room ──
 
-room-three : (bs : List Burst) (n : Clock) (x : ℕ) → Ordered x bs → x ≤ n .0 → with-room n (take 4 (bs ++ no-reads)) ≡ take 3 (bs ++ no-reads)
+room-three : (bs : List Burst) (n : Clock) (x : ℕ) → Ordered x bs → x ≤ n .0
+    → with-room n (take 4 (bs ++ no-reads)) ≡ take 3 (bs ++ no-reads)
 unfolding has-beat
 room-three [] n x o h = fourth-gives-way n no-reads refl refl
 room-three (a ∷ []) n x o h = fourth-gives-way n (a ∷ no-burst ∷ no-burst ∷ no-burst ∷ []) refl refl
@@ -209,4 +220,5 @@ room-three (a ∷ b ∷ c ∷ d ∷ bs) n x o h =
 -- FOR A NEW READ THE OLDEST OF THE FOUR MAKES ROOM
 pub held-room : (past : List Record) (n : Clock) → Words past → first-free past ≤ n .0
     → with-room n (held past) ≡ take 3 (reads-back uncut past ++ no-reads)
-held-room past n w h = room-three (reads-back uncut past) n (first-free past) (back-ordered (first-free past) uncut past (omega arith) w) h
+held-room past n w h =
+    room-three (reads-back uncut past) n (first-free past) (back-ordered (first-free past) uncut past (omega arith) w) h

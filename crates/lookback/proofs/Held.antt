@@ -1,4 +1,4 @@
--- The bursts that the state holds, as looking back finds them: each with the first command after it that cuts it. Definitions only.
+-- The bursts that the state holds, as looking back finds them, each with the first command that cuts it. Definitions only.
 use Prim.Native.Nat.{ℕ}
 use mathlib.Core.Bool.{cond}
 use mathlib.Core.List.{List, [], _∷_, _++_}

@@ -25,7 +25,8 @@ free-high [] m h = refl
 free-high (r ∷ past) m h = rw (ne-eqb (m .0) (clock-in past r .0) (λ e. omega arith)) (free-high past m (omega arith))
 
 -- the masks of an earlier clock
-before-record : (r : Record) (past : List Record) (m : Clock) → m .0 < clock-in past r .0 → masks-at (r ∷ past) m ≡ masks-at past m
+before-record : (r : Record) (past : List Record) (m : Clock) → m .0 < clock-in past r .0
+    → masks-at (r ∷ past) m ≡ masks-at past m
 unfolding masks-at
 before-record r past m g = rw (ne-eqb (m .0) (clock-in past r .0) (λ e. omega arith))
 
@@ -50,7 +51,8 @@ third-back [] m h = absurd (omega arith)
 third-back (r ∷ past) m h = go (eqb (r .skipped) 0) (eqb (r .skipped) 1) refl refl ∙ sym (before-record r past m (omega arith))
   where
     go : (x y : Bool) → eqb (r .skipped) 0 ≡ x → eqb (r .skipped) 1 ≡ y
-        → cond (eqb (r .skipped) 0) (masks-held past .second) (cond (eqb (r .skipped) 1) (masks-held past .first) all-high) ≡ masks-at past m
+        → cond (eqb (r .skipped) 0) (masks-held past .second) (cond (eqb (r .skipped) 1) (masks-held past .first) all-high)
+        ≡ masks-at past m
     go true y e f = rw e (second-back past m (omega (arith, eqb-true (r .skipped) 0 e)))
     go false true e f = rw (e, f) (first-back past m (omega (arith, eqb-true (r .skipped) 1 f)))
     go false false e f =
@@ -63,7 +65,8 @@ abbrev three-held : List Record → List ℕ
 three-held past = masks-held past .first ∷ masks-held past .second ∷ masks-held past .third ∷ []
 
 -- THE MASKS OF THE LAST THREE CLOCKS AND OF ALL AFTER
-pub same-masks : (past : List Record) (m : Clock) → first-free past ≤ m .0 + 3 → masks-on (newest past) (masks-held past) m ≡ masks-at past m
+pub same-masks : (past : List Record) (m : Clock) → first-free past ≤ m .0 + 3
+    → masks-on (newest past) (masks-held past) m ≡ masks-at past m
 unfolding masks-on
 same-masks [] m h = sym (free-high [] m (omega arith))
 same-masks (r ∷ past) m h = go (leb (m .0) (clock-in past r .0)) refl

@@ -25,16 +25,20 @@ use Rattle.lookback.proofs.FourReads.{Ordered, Words, back-ordered, hel
 -- ── The WRITE ──
 
 pub write-step : (r : Record) (past : List Record)
-    → write-after (command r) r (clock-in past r) (mode-in past) (row-in (r .ba) past) (write-back uncut past) ≡ write-back uncut (r ∷ past)
+    → write-after (command r) r (clock-in past r) (mode-in past) (row-in (r .ba) past) (write-back uncut past)
+    ≡ write-back uncut (r ∷ past)
 unfolding write-back
 write-step r past = go (writes r) rest
   where
-    rest : cut-by (command r) (r .addr) (r .ba) (clock-in past r) (write-back uncut past) ≡ write-back (cuts-from r past uncut) past
+    rest : cut-by (command r) (r .addr) (r .ba) (clock-in past r) (write-back uncut past)
+        ≡ write-back (cuts-from r past uncut) past
     rest =
         cut-first r past (write-back uncut past) (write-placed (first-free past) uncut past (omega arith) (λ i. tt))
         ∙ sym (write-later (cuts-from r past uncut) past)
 
-    go : (x : Bool) → cut-by (command r) (r .addr) (r .ba) (clock-in past r) (write-back uncut past) ≡ write-back (cuts-from r past uncut) past
+    go : (x : Bool)
+        → cut-by (command r) (r .addr) (r .ba) (clock-in past r) (write-back uncut past)
+        ≡ write-back (cuts-from r past uncut) past
         → cond x (registered uncut r past) (cut-by (command r) (r .addr) (r .ba) (clock-in past r) (write-back uncut past))
         ≡ cond x (registered uncut r past) (write-back (cuts-from r past uncut) past)
     go true h = refl
@@ -61,7 +65,8 @@ empty-stays true = refl
 empty-stays false = refl
 
 -- a WRITE on clock n leaves no READ, for all stand before it
-written-all : (bs : List Burst) (n : Clock) (x : ℕ) → Ordered x bs → x ≤ n .0 → written-over n (take 4 (bs ++ no-reads)) ≡ no-reads
+written-all : (bs : List Burst) (n : Clock) (x : ℕ) → Ordered x bs → x ≤ n .0
+    → written-over n (take 4 (bs ++ no-reads)) ≡ no-reads
 written-all [] n x o h = rw (empty-stays (ltb 0 (n .0)))
 written-all (a ∷ []) n x o h = rw (lt-ltb (a .start .0) (n .0) (omega (arith, o .0 .0)), empty-stays (ltb 0 (n .0)))
 written-all (a ∷ b ∷ []) n x o h =
@@ -106,14 +111,17 @@ module _ (r : Record) (past : List Record) where
     where
       go : (x y : Bool) → with-room (clock-in past r) (held past) ≡ take 3 (reads-back uncut past ++ no-reads)
           → cond x (written-over (clock-in past r) (held past))
-          (cond y (registered uncut r past ∷ cut-each (command r) (r .addr) (r .ba) (clock-in past r) (with-room (clock-in past r) (held past)))
+          (cond y
+          (registered uncut r past
+          ∷ cut-each (command r) (r .addr) (r .ba) (clock-in past r) (with-room (clock-in past r) (held past)))
           (cut-each (command r) (r .addr) (r .ba) (clock-in past r) (held past)))
           ≡ take 4
           (cond x []
           (cond y (registered uncut r past ∷ reads-back (cuts-from r past uncut) past) (reads-back (cuts-from r past uncut) past))
           ++ no-reads)
       go true y h =
-          written-all (reads-back uncut past) (clock-in past r) (first-free past) (back-ordered (first-free past) uncut past (omega arith) w)
+          written-all (reads-back uncut past) (clock-in past r) (first-free past)
+          (back-ordered (first-free past) uncut past (omega arith) w)
           (omega arith)
       go false true h = ap (λ (l : List Burst). registered uncut r past ∷ l) (rw h (places 3))
       go false false h = places 4

@@ -32,9 +32,11 @@ legal-latency m w h =
     let a = ltb (w % 8) 4 || (has-full-page m && full-page w && not (interleaved w)) in
     let b = eqb (latency w) 2 || eqb (latency w) 3 in
     let p : well-formed m w ≡ true = sym (legal-is m w) ∙ h in
-    or-three (latency w) (both a b (both (a && b) (eqb (w / 128 % 4) 0) (both (a && b && eqb (w / 128 % 4) 0) (eqb (w / 1024) 0) p .0) .0) .1)
+    or-three (latency w)
+    (both a b (both (a && b) (eqb (w / 128 % 4) 0) (both (a && b && eqb (w / 128 % 4) 0) (eqb (w / 1024) 0) p .0) .0) .1)
 
-pub word-more : (m : Module) (r : Record) (past : List Record) → (is (command r) LoadMode ⇒ legal m (r .addr) && eqb (r .ba) 0) ≡ true
+pub word-more : (m : Module) (r : Record) (past : List Record)
+    → (is (command r) LoadMode ⇒ legal m (r .addr) && eqb (r .ba) 0) ≡ true
     → latency (mode-in past) ≤ 3 → latency (mode-in (r ∷ past)) ≤ 3
 word-more m r past k h = go (loads r) refl
   where

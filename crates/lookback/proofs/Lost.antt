@@ -58,7 +58,8 @@ first-of-two true y f (On z) s h = go (leb y f) refl
     go true p = rw (p, or-true)
     go false p = rw (p, lt-leb (z .0) f (omega (arith, h, leb-false y f p)))
 
-module _ (g : ℕ → Record → Bool) (c : ℕ → Event) (all : List Record) (r : Record) (past : List Record) (s : Summed g c all (r ∷ past)) where
+module _ (g : ℕ → Record → Bool) (c : ℕ → Event) (all : List Record) (r : Record) (past : List Record)
+    (s : Summed g c all (r ∷ past)) where
   -- one record further back, where g tells of it what cuts
   pub one-back : ((i : ℕ) → g i r ≡ cuts-write i r) → Summed g (cuts-from r past c) all past
   one-back same =

@@ -55,11 +55,16 @@ use Rattle.lookback.proofs.OpenBank.{access-open, auto-open, row-at, wr
 
 module _ (t : SpeedTable) (period : Ps) (grade bank row : ℕ) (r : Record) (past : List Record) (row0 : ℕ)
     (same-row : access (command r) ≡ true → row0 ≡ row-in (r .ba) past) (w : Words (r ∷ past)) where
-  write-one : write-after (command r) r (clock-in past r) (mode-in past) row0 (write-back uncut past) ≡ write-back uncut (r ∷ past)
-  write-one = write-row (command r) r (clock-in past r) (mode-in past) row0 (row-in (r .ba) past) same-row (write-back uncut past) ∙ write-step r past
+  write-one : write-after (command r) r (clock-in past r) (mode-in past) row0 (write-back uncut past)
+      ≡ write-back uncut (r ∷ past)
+  write-one =
+      write-row (command r) r (clock-in past r) (mode-in past) row0 (row-in (r .ba) past) same-row (write-back uncut past)
+      ∙ write-step r past
 
   reads-one : reads-after (command r) r (clock-in past r) (mode-in past) row0 (held past) ≡ held (r ∷ past)
-  reads-one = reads-row (command r) r (clock-in past r) (mode-in past) row0 (row-in (r .ba) past) same-row (held past) ∙ reads-step r past (w .1)
+  reads-one =
+      reads-row (command r) r (clock-in past r) (mode-in past) row0 (row-in (r .ba) past) same-row (held past)
+      ∙ reads-step r past (w .1)
 
   core-one : core-after (core-in period grade bank row past) r row0 ≡ core-in period grade bank row (r ∷ past)
   unfolding core-after core-from bus-after masks-held
@@ -89,7 +94,8 @@ module _ (t : SpeedTable) (period : Ps) (grade bank row : ℕ) (r : Record) (pas
 
 bank-split : (x a b c : Bool) (n : Clock) (addr : ℕ) (p q : Status) (d : Bank)
     → marked x n (cond a (activated addr n) (cond b (with-status p d) (cond c (with-status q d) d)))
-    ≡ bank-of (cond a (Open addr n) (cond b p (cond c q (d .status)))) (cond a (On n) (d .active)) (cond x (On n) (cond a Never (d .stored)))
+    ≡ bank-of (cond a (Open addr n) (cond b p (cond c q (d .status)))) (cond a (On n) (d .active))
+    (cond x (On n) (cond a Never (d .stored)))
 bank-split x true b c n addr p q d = refl
 bank-split x false true c n addr p q d = refl
 bank-split x false false true n addr p q d = refl
@@ -102,7 +108,8 @@ module _ (t : SpeedTable) (period : Ps) (r : Record) (past : List Record) (again
 
   -- bank i after r's command, and after the beat on its clock
   abbrev commanded-bank : ℕ → Bank
-  commanded-bank i = bank-after (command r) t period end again r (clock-in past r) (at period (clock-in past r)) i (bank-in t period i past)
+  commanded-bank i =
+      bank-after (command r) t period end again r (clock-in past r) (at period (clock-in past r)) i (bank-in t period i past)
 
   abbrev left-bank : ℕ → Bank
   left-bank i = marked (stores-in (beat-in past r) i) (clock-in past r) (commanded-bank i)
@@ -113,7 +120,8 @@ module _ (t : SpeedTable) (period : Ps) (r : Record) (past : List Record) (again
   unfolding bank-after stored-in
   bank-one i h g =
       bank-split (stores-in (beat-in past r) i) (activates i r) (auto-closes i r) (precharges i r) (clock-in past r) (r .addr)
-      (auto-closed t period end (status-in t period i past)) (precharged again (at period (clock-in past r)) (status-in t period i past))
+      (auto-closed t period end (status-in t period i past))
+      (precharged again (at period (clock-in past r)) (status-in t period i past))
       (bank-in t period i past)
       ∙ (λ j. bank-of (status-step t period i r past again h g j) (last-step (activates i) r past j) (stored-in i (r ∷ past)))
 
@@ -129,7 +137,8 @@ module _ (u : Setup) (period : Ps) (grade bank row : ℕ) (r : Record) (past : L
   bank-more : (i : ℕ) → left-bank (u .table) period r past (begun (startup-in past)) i ≡ bank-in (u .table) period i (r ∷ past)
   bank-more i = bank-one (u .table) period r past (begun (startup-in past)) i (auto-open (u .table) period r past f i) (g i)
 
-  pub state-more : next u (state-in (u .table) period grade bank row past) r ≡ state-in (u .table) period grade bank row (r ∷ past)
+  pub state-more : next u (state-in (u .table) period grade bank row past) r
+      ≡ state-in (u .table) period grade bank row (r ∷ past)
   unfolding next banks-after mark-banks commanded
   state-more =
       rw (

@@ -52,14 +52,16 @@ module _ (t : SpeedTable) (period : Ps) (past : List Record) where
   open-at (suc (suc (suc zero))) h = h
   open-at (suc (suc (suc (suc i)))) h = absurd (true≢false (sym h))
 
-  pub row-at : (i : ℕ) → is-open (bank-at (banks-in t period past) i .status) ≡ true → row-of (bank-at (banks-in t period past) i .status) ≡ row-in i past
+  pub row-at : (i : ℕ) → is-open (bank-at (banks-in t period past) i .status) ≡ true
+      → row-of (bank-at (banks-in t period past) i .status) ≡ row-in i past
   row-at zero h = open-row t period 0 past h
   row-at (suc zero) h = open-row t period 1 past h
   row-at (suc (suc zero)) h = open-row t period 2 past h
   row-at (suc (suc (suc zero))) h = open-row t period 3 past h
   row-at (suc (suc (suc (suc i)))) h = absurd (true≢false (sym h))
 
-pub access-open : (k : Command) (ba : ℕ) (bs : List Bank) → banks-found k ba bs ≡ true → access k ≡ true → is-open (bank-at bs ba .status) ≡ true
+pub access-open : (k : Command) (ba : ℕ) (bs : List Bank) → banks-found k ba bs ≡ true → access k ≡ true
+    → is-open (bank-at bs ba .status) ≡ true
 unfolding banks-found
 access-open Inhibit ba bs h a = absurd (true≢false (sym a))
 access-open Nop ba bs h a = absurd (true≢false (sym a))
@@ -72,11 +74,13 @@ access-open Refresh ba bs h a = absurd (true≢false (sym a))
 access-open LoadMode ba bs h a = absurd (true≢false (sym a))
 
 -- the bank of an auto precharge is open
-pub auto-open : (t : SpeedTable) (period : Ps) (r : Record) (past : List Record) → banks-found (command r) (r .ba) (banks-in t period past) ≡ true
+pub auto-open : (t : SpeedTable) (period : Ps) (r : Record) (past : List Record)
+    → banks-found (command r) (r .ba) (banks-in t period past) ≡ true
     → (i : ℕ) → auto-closes i r ≡ true → is-open (status-in t period i past) ≡ true
 auto-open t period r past f i h =
     let a = both (asks-auto (command r) r) (eqb i (r .ba)) h in
-    let o = open-at t period past (r .ba) (access-open (command r) (r .ba) (banks-in t period past) f (both (access (command r)) (a10 r) (a .0) .0)) in
+    let e = both (access (command r)) (a10 r) (a .0) .0 in
+    let o = open-at t period past (r .ba) (access-open (command r) (r .ba) (banks-in t period past) f e) in
     subst (λ (j : ℕ). is-open (status-in t period j past) ≡ true) (sym (eqb-true i (r .ba) (a .1))) o
 
 -- ── The row matters to a READ or WRITE only ──

@@ -1,4 +1,4 @@
--- The beat of the bursts found is the beat that looking back finds: of the last WRITE, and of the READs since it. Assumes nothing.
+-- The beats of the last WRITE and of the READs since it are the beats that looking back finds. Assumes nothing.
 use Prim.Native.Nat.{ℕ, _+_, _-_, _<_, _≤_}
 use native.Mathlib.Omega.{arith}
 use mathlib.Core.Path.{_≡_, refl, sym, _∙_}
@@ -59,7 +59,8 @@ module _ (all : List Record) (masks : ℕ) (n : Clock) where
       rw (back-again w (n .0) (omega arith), cut (r .ba) w (omega arith), and-false, and-false, and-false)
       (older-writes v past h (omega arith) cut)
 
-  module _ (c : ℕ → Event) (r : Record) (past : List Record) (s : Summed cuts-write c all (r ∷ past)) (h : clock-in past r .0 ≤ n .0) where
+  module _ (c : ℕ → Event) (r : Record) (past : List Record) (s : Summed cuts-write c all (r ∷ past))
+      (h : clock-in past r .0 ≤ n .0) where
     write-same : has-beat (registered c r past) (write-length (mode-in past)) (write-endless (mode-in past)) n
         ≡ (leb (clock-in past r .0) (n .0) && write-has all r past (n .0 - clock-in past r .0))
     unfolding has-beat
@@ -71,11 +72,13 @@ module _ (all : List Record) (masks : ℕ) (n : Clock) where
           own-kept cuts-write c all r past s (r .ba) n,
           own-beat-number w (n .0) (write-length (mode-in past)) h,
         )
-        (and-comm (not (stands (cuts-write (r .ba)) w (n .0) all)) (write-endless (mode-in past) || ltb (n .0 - w) (write-length (mode-in past))))
+        (and-comm (not (stands (cuts-write (r .ba)) w (n .0) all))
+        (write-endless (mode-in past) || ltb (n .0 - w) (write-length (mode-in past))))
 
     newer-cuts : writes r ≡ true → (i x : ℕ) → x < clock-in past r .0 → stands (cuts-write i) x (n .0) all ≡ true
     newer-cuts e i x k =
-        s .lost i x (n .0) (omega arith) ∙ rw (lt-ltb x (clock-in past r .0) k, le-leb (clock-in past r .0) (n .0) h, e, or-true, or-true)
+        s .lost i x (n .0) (omega arith)
+        ∙ rw (lt-ltb x (clock-in past r .0) k, le-leb (clock-in past r .0) (n .0) h, e, or-true, or-true)
 
   pub write-told : (c : ℕ → Event) (past : List Record) → Summed cuts-write c all past → first-free past ≤ n .0 + 1
       → write-beat (write-back c past) masks n ≡ write-on all masks n past
@@ -169,7 +172,8 @@ module _ (all : List Record) (masks : ℕ) (n : Clock) where
     unwritten f = free (clock-in past r .0) f (omega arith) ∙ none-after writes (clock-in past r .0) f (r ∷ past) (omega arith)
 
     -- the READ that r registers runs on clock n
-    read-same : reads-on (registered c r past) n ≡ (leb (read-first r past) (n .0) && read-has all r past (n .0 - read-first r past))
+    read-same : reads-on (registered c r past) n
+        ≡ (leb (read-first r past) (n .0) && read-has all r past (n .0 - read-first r past))
     unfolding has-beat
     read-same =
         rw (

@@ -1,4 +1,4 @@
--- THE JUDGE THAT LOOKS BACK IS THE JUDGE: verdict, reported record, every line and the page, for any number of records. Assumes nothing.
+-- THE JUDGE THAT LOOKS BACK IS THE JUDGE: verdict, record, every line and the page, for any number of records. Assumes nothing.
 use Prim.Native.Nat.{ℕ, _+_, _≤_}
 use native.Mathlib.Omega.{arith}
 use mathlib.Core.Path.{_≡_, refl, ap, ap₂, sym, _∙_}
@@ -75,11 +75,13 @@ module _ (u : Setup) (period : Ps) (grade bank row : ℕ) where
   -- ── All records ──
 
   look-taken : (past : List Record) (r : Record) (rs : List Record) → look u (module-of grade) period past r ≡ Taken
-      → look-run u (module-of grade) period past (r ∷ rs) ≡ with-line (line-in past r) (look-run u (module-of grade) period (r ∷ past) rs)
+      → look-run u (module-of grade) period past (r ∷ rs)
+      ≡ with-line (line-in past r) (look-run u (module-of grade) period (r ∷ past) rs)
   unfolding look-run
   look-taken past r rs p = rw (p, look-run)
 
-  look-refused : (past : List Record) (r : Record) (rs : List Record) (n i : ℕ) → look u (module-of grade) period past r ≡ Refused n i
+  look-refused : (past : List Record) (r : Record) (rs : List Record) (n i : ℕ)
+      → look u (module-of grade) period past r ≡ Refused n i
       → look-run u (module-of grade) period past (r ∷ rs) ≡ record { verdict = Refused n i; reported = count past; lines = [] }
   unfolding look-run
   look-refused past r rs n i p = rw (p, look-run)
@@ -97,7 +99,8 @@ module _ (u : Setup) (period : Ps) (grade bank row : ℕ) where
       → look-run u (module-of grade) period past rs ≡ run u (after u (start period grade bank row) past) rs
   same-run past [] k =
       look-none past
-      ∙ (ap (λ (s : State). record { verdict = Taken; reported = s .core .number; lines = [] }) (sym (tied u period grade bank row past k .state))
+      ∙ (ap (λ (s : State). record { verdict = Taken; reported = s .core .number; lines = [] })
+      (sym (tied u period grade bank row past k .state))
       ∙ sym (run-none (after u (start period grade bank row) past)))
   same-run past (r ∷ rs) k = go (ask u (after u (start period grade bank row) past) r) refl (λ p. same-run (r ∷ past) rs (p, k))
     where

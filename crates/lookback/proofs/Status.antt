@@ -31,7 +31,8 @@ module _ (t : SpeedTable) (period : Ps) (i : ℕ) (r : Record) (past : List Reco
   pub status-step : (auto-closes i r ≡ true → is-open (status-in t period i past) ≡ true)
       → (is-closed (status-in t period i past) ≡ true → again ≡ true)
       → status-next (status-in t period i past) ≡ status-in t period i (r ∷ past)
-  status-step = go (activates i r) (auto-closes i r) (precharges i r) (back-to-close i past) (back-to (activates i) past) refl refl
+  status-step =
+      go (activates i r) (auto-closes i r) (precharges i r) (back-to-close i past) (back-to (activates i) past) refl refl
     where
       go : (a b c : Bool) (cl act : List Record) → auto-closes i r ≡ b → back-to (activates i) past ≡ act
           → (b ≡ true → is-open (status-by t period i cl act) ≡ true)

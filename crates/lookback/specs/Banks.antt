@@ -1,4 +1,4 @@
--- A bank by looking back: its last ACTIVE, open or closed, and its closing (01, Commands and what each must find). Definitions only.
+-- A bank by looking back: its last ACTIVE, open or closed, its closing (01, Commands and what each must find). Definitions only.
 use Prim.Native.Nat.{ℕ}
 use mathlib.Core.Bool.{Bool, _&&_, _||_, cond}
 use mathlib.Core.List.{List, [], _∷_}

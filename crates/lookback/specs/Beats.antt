@@ -16,7 +16,8 @@ use Rattle.lookback.specs.Bursts.{write-on, read-on}
 abbrev pub stored-on : List Record → Record → Beat
 stored-on past r = write-on (r ∷ past) (r .masks) (clock-in past r) (r ∷ past)
 
--- "A lane is driven if its DQMB was LOW two clocks earlier": the beat of a READ on clock n, where `all` stand up to it and `past` before it
+-- "A lane is driven if its DQMB was LOW two clocks earlier": the beat of a READ on clock n. The records up to it are `all`, those
+-- before it are `past`
 abbrev pub driven-on : List Record → List Record → Clock → Beat
 driven-on all past n = read-on all (masks-at past (two-before n)) n all
 
@@ -24,7 +25,8 @@ driven-on all past n = read-on all (masks-at past (two-before n)) n all
 unfoldable pub beat-in : List Record → Record → Beat
 beat-in past r = or-else (stored-on past r) (driven-on (r ∷ past) past (clock-in past r))
 
--- "the last clock on which a byte was stored in it after its ACTIVE", of bank i
+-- "the last clock on which a byte was stored in it after its ACTIVE", of bank i. A byte on the ACTIVE's own clock is told too;
+-- tWR counts from a later one only (rules/Banks `last-store`)
 unfoldable pub stored-in : ℕ → List Record → Event
 stored-in i [] = Never
 stored-in i (r ∷ past) =

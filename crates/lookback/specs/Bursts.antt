@@ -46,7 +46,8 @@ unfoldable pub write-on : List Record → ℕ → Clock → List Record → Beat
 write-on all masks n [] = Quiet
 write-on all masks n (r ∷ past) =
     let i = n .0 - clock-in past r .0 in
-    cond (writes r && (leb (clock-in past r .0) (n .0) && write-has all r past i)) (Stores (cells-in r past i masks)) (write-on all masks n past)
+    cond (writes r && (leb (clock-in past r .0) (n .0) && write-has all r past i)) (Stores (cells-in r past i masks))
+    (write-on all masks n past)
 
 -- ── READ ──
 
@@ -71,7 +72,8 @@ unfoldable pub read-on : List Record → ℕ → Clock → List Record → Beat
 read-on all masks n [] = Quiet
 read-on all masks n (r ∷ past) =
     let i = n .0 - read-first r past in
-    cond (reads r && (leb (read-first r past) (n .0) && read-has all r past i)) (Drives (cells-in r past i masks)) (read-on all masks n past)
+    cond (reads r && (leb (read-first r past) (n .0) && read-has all r past i)) (Drives (cells-in r past i masks))
+    (read-on all masks n past)
 
 -- ── Auto precharge ──
 

@@ -1,4 +1,4 @@
--- The judge that looks back: each record is asked the rows of the verdict table on what the earlier ones show (02, K6). Definitions only.
+-- The judge that looks back: each record meets the verdict table with what the earlier records show (02, K6). Definitions only.
 use Prim.Native.Nat.{ℕ}
 use mathlib.Core.List.{List, [], _∷_}
 use Rattle.units.specs.declared.Clock.{Clock}

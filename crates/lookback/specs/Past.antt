@@ -1,4 +1,4 @@
--- Looking back over the earlier records, the newest first: their clocks, and the last one of a kind (01, Trace layout). Definitions only.
+-- The earlier records, the newest first: their clocks, those of a kind, their masks (01, Trace layout). Definitions only.
 use Prim.Native.Nat.{ℕ, suc, _+_}
 use mathlib.Core.Bool.{Bool, false, _&&_, _||_, cond}
 use mathlib.Core.List.{List, [], _∷_}
@@ -17,8 +17,8 @@ abbrev pub first-free : List Record → ℕ
 first-free [] = 0
 first-free (r ∷ past) = suc (first-free past + r .skipped)
 
--- the clock of record r after these: "The first record stands on the clock equal to its skipped count; each later one on the previous
--- clock plus its skipped count plus 1"
+-- the clock of record r after these: "The first record stands on the clock equal to its skipped count; each later one on the
+-- previous clock plus its skipped count plus 1"
 abbrev pub clock-in : List Record → Record → Clock
 clock-in past r = clock (first-free past + r .skipped)
 

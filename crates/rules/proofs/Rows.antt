@@ -83,7 +83,8 @@ module _ (u : Setup) (s : State) (r : Record) (p : ask u s r ≡ Taken) where
   cke-kept = eqb-true _ _ (kept 11 0 (rules-of u s r) p)
 
   -- 12
-  pub interval-kept : within (s .core .period) (u .table .interval) (now (s .core) r) (counted-refresh (s .core .startup .refreshes)) ≡ true
+  pub interval-kept : within (s .core .period) (u .table .interval) (now (s .core) r)
+      (counted-refresh (s .core .startup .refreshes)) ≡ true
   unfolding ask rules every-rules
   interval-kept = kept 12 0 (rules-of u s r) p
 
@@ -106,12 +107,15 @@ module _ (u : Setup) (s : State) (r : Record) (p : ask u s r ≡ Taken) where
   -- 15
   pub banks-kept : banks-found (command r) (r .ba) (s .banks) ≡ true
   unfolding ask rules every-rules command-rules place-rules banks-found
-  banks-kept = of-all (λ k. banks-found k (r .ba) (s .banks)) refl refl (command r) (command-kept 15 0 (kept 15 0 (rules-of u s r) p))
+  banks-kept =
+      of-all (λ k. banks-found k (r .ba) (s .banks)) refl refl (command r) (command-kept 15 0 (kept 15 0 (rules-of u s r) p))
 
   -- 16, of minimum i
   pub minimum-kept : (i : ℕ)
       → (executable (command r)
-      ⇒ test 16 i (minimum-rules (u .table) (s .core .period) (now (s .core) r) (minima (command r) (s .core .period) (s .core .startup) r (s .banks))))
+      ⇒ test 16 i
+      (minimum-rules (u .table) (s .core .period) (now (s .core) r)
+      (minima (command r) (s .core .period) (s .core .startup) r (s .banks))))
       ≡ true
   unfolding ask rules every-rules command-rules place-rules minimum-rules mode-rules bus-rules
   minimum-kept i = command-kept 16 i (kept 16 i (rules-of u s r) p)
@@ -132,10 +136,13 @@ module _ (u : Setup) (s : State) (r : Record) (p : ask u s r ≡ Taken) where
 
   -- 19
   pub finished-kept :
-      (access (command r) || is (command r) Terminate ⇒ bursts-finished (s .core .bus .write) (s .core .bus .reads) (clock-of (s .core) r)) ≡ true
+      (access (command r) || is (command r) Terminate
+      ⇒ bursts-finished (s .core .bus .write) (s .core .bus .reads) (clock-of (s .core) r)) ≡ true
   unfolding ask rules every-rules command-rules place-rules minimum-rules mode-rules bus-rules
   finished-kept =
-      of-all (λ k. access k || is k Terminate ⇒ bursts-finished (s .core .bus .write) (s .core .bus .reads) (clock-of (s .core) r)) refl refl (command r)
+      of-all
+      (λ k. access k || is k Terminate
+      ⇒ bursts-finished (s .core .bus .write) (s .core .bus .reads) (clock-of (s .core) r)) refl refl (command r)
       (command-kept 19 0 (kept 19 0 (rules-of u s r) p))
 
   -- 20
@@ -143,25 +150,30 @@ module _ (u : Setup) (s : State) (r : Record) (p : ask u s r ≡ Taken) where
       (is (command r) Write ⇒ bus-clear (s .core .last) (s .core .bus .masks) (s .core .bus .reads) (clock-of (s .core) r)) ≡ true
   unfolding ask rules every-rules command-rules place-rules minimum-rules mode-rules bus-rules
   clear-kept =
-      of-all (λ k. is k Write ⇒ bus-clear (s .core .last) (s .core .bus .masks) (s .core .bus .reads) (clock-of (s .core) r)) refl refl (command r)
+      of-all
+      (λ k. is k Write ⇒ bus-clear (s .core .last) (s .core .bus .masks) (s .core .bus .reads) (clock-of (s .core) r)) refl refl
+      (command r)
       (command-kept 20 0 (kept 20 0 (rules-of u s r) p))
 
   -- 21
   pub ends-kept : (asks-auto (command r) r ⇒ ends-by-itself (command r) (word (s .core))) ≡ true
   unfolding ask rules every-rules command-rules place-rules minimum-rules mode-rules bus-rules
   ends-kept =
-      of-all (λ k. asks-auto k r ⇒ ends-by-itself k (word (s .core))) refl refl (command r) (command-kept 21 0 (kept 21 0 (rules-of u s r) p))
+      of-all (λ k. asks-auto k r ⇒ ends-by-itself k (word (s .core))) refl refl (command r)
+      (command-kept 21 0 (kept 21 0 (rules-of u s r) p))
 
   -- 22
   pub closes-kept :
       (asks-auto (command r) r
-      ⇒ closes-within (u .table) (s .core .period) (burst-end (command r) (u .table) (s .core .period) (word (s .core)) (clock-of (s .core) r))
+      ⇒ closes-within (u .table) (s .core .period)
+      (burst-end (command r) (u .table) (s .core .period) (word (s .core)) (clock-of (s .core) r))
       (bank-at (s .banks) (r .ba) .status))
       ≡ true
   unfolding ask rules every-rules command-rules place-rules minimum-rules mode-rules bus-rules
   closes-kept =
       of-all
       (λ k. asks-auto k r
-      ⇒ closes-within (u .table) (s .core .period) (burst-end k (u .table) (s .core .period) (word (s .core)) (clock-of (s .core) r))
+      ⇒ closes-within (u .table) (s .core .period)
+      (burst-end k (u .table) (s .core .period) (word (s .core)) (clock-of (s .core) r))
       (bank-at (s .banks) (r .ba) .status))
       refl refl (command r) (command-kept 22 0 (kept 22 0 (rules-of u s r) p))

@@ -82,8 +82,8 @@ mode-rules k t m period r =
     ∷ rule 18 0 (is k LoadMode ⇒ by (tCK t (r .addr)) period)
     ∷ []
 
--- 19 to 22, in mode `word`: no auto precharge burst is unfinished on the record's clock n where `finished`, the data bus is clear for a
--- WRITE on it where `clear`, and `status` is that of the record's bank
+-- 19 to 22 on clock n. `word` is the mode loaded, `finished` says that no auto precharge burst is unfinished on this clock, `clear`
+-- that the data bus is clear for a WRITE, and `status` is that of the record's bank
 unfoldable pub bus-rules : Command → SpeedTable → Ps → ℕ → Bool → Bool → Status → Record → Clock → List Rule
 bus-rules k t period word finished clear status r n =
     rule 19 0 (access k || is k Terminate ⇒ finished)
@@ -92,7 +92,7 @@ bus-rules k t period word finished clear status r n =
     ∷ rule 22 0 (asks-auto k r ⇒ closes-within t period (burst-end k t period word n) status)
     ∷ []
 
--- what the rows read of the records before, for a record on one clock; who keeps a state finds it there, who keeps none looks back
+-- what the rows read of the earlier records. `ask` takes it from the state; the crate `lookback` finds it by looking back
 pub record Found : Type 0 where
   pub startup : StartUp
   pub banks : List Bank
