@@ -13,7 +13,8 @@ In docs/MAP.md, docs/DEFINITION.md and docs/PROMISES.md (STRICT) besides:
 - a code block reads as some definition does;
 - an example that is named, and a bench case by its number, exists.
 In docs/PROMISES.md the definition of a row is one that the function's contract names. docs/DEFINITION.md leads to every definition file, which
-is all of specs/ but the tables of facts, and says how many there are to read.
+is all of specs/ but the tables of facts, and says how many there are to read. docs/TESTING.md has each crate of the facts run with its
+number of wrong edits.
 
 It prints each thing that is not there, with file and line, and exits 1."""
 import functools
@@ -22,6 +23,8 @@ import os
 import re
 import sys
 
+import facts
+import mutate
 import promises
 
 ROOT = promises.ROOT
@@ -173,6 +176,13 @@ class Paper:
         for m in re.finditer(r"believed (\d+)", self.prose):
             self.expect(m.start(), 0 < int(m.group(1)) <= last, "%s: docs/MAP.md has %d" % (m.group(), last))
 
+    def facts_run(self, edits):
+        """The table of the facts run: each crate, and so many edits of its definitions."""
+        start = self.prose.index("## Facts alone")
+        rows = re.findall(r"^\| (\w+) \| (\d+) \|", self.prose[start:], re.M)
+        right = {c: sum(e.crate == c for e in edits) for c in facts.crates()}
+        self.expect(start, dict(rows) == {c: str(n) for c, n in dict(right, all=len(edits)).items()}, "the edits of each crate are %s" % right)
+
     def counts(self, counts):
         for pattern, right in counts:
             for m in re.finditer(pattern, self.prose, re.I):
@@ -191,12 +201,15 @@ def main():
         known |= names_in(f)
     definitions = [bare(text_of(f)) for f in specs]
     asking = [c for c in promises.libraries() for contract in promises.functions(c).values() if "requires {" in contract]
+    every, with_code = mutate.edits()
     counts = [
         (r"(\w+) (?:public|inner) functions(?= of| are| have)", len(asking)),
         (r"(\w+) inner crates", len(set(asking))),
         (r"(\w+) exceptions", len(asking)),
         (r"(\w+) small traces", len(glob.glob(os.path.join(ROOT, "examples/*.trace")))),
-        (r"([\w,]+) wrong edits of `host/mutations", len(re.findall(r"^why:", text_of("host/mutations.txt"), re.M))),
+        (r"([\w,]+) wrong edits of `host/mutations", len(every)),
+        (r"makes the ([\w,]+) above its line", with_code),
+        (r"([\w,]+) definition\s+files is refused", len(facts.definitions())),
     ]
     papers = [Paper(p) for p in PAPERS]
     for p in papers:
@@ -210,6 +223,8 @@ def main():
             p.runs()
         if p.path == "docs/PROMISES.md":
             p.contracts()
+        if p.path == "docs/TESTING.md":
+            p.facts_run([e for e in every if facts.definition_of(e)])
         if p.path == "docs/DEFINITION.md":
             order = {file for row in re.findall(r"^\| \d+ \|([^|]*)", p.prose, re.M) for _, file, _, _ in citations(row) if file}
             lines = sum(text_of(f).count("\n") for f in order)

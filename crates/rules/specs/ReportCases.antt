@@ -211,7 +211,7 @@ abbrev nop-bytes : List ℕ
 nop-bytes = 0 ∷ 0 ∷ 0 ∷ 0xb8 ∷ 0 ∷ 0 ∷ 0 ∷ 0 ∷ 0 ∷ 0 ∷ 0 ∷ 0 ∷ 0 ∷ 0 ∷ 0 ∷ 9 ∷ []
 
 abbrev active-bytes : List ℕ
-active-bytes = 0 ∷ 0 ∷ 0 ∷ 0x9a ∷ 0 ∷ 0 ∷ 0 ∷ 0 ∷ replicate 8 0
+active-bytes = 0 ∷ 0 ∷ 0 ∷ 0x9a ∷ 0 ∷ 0 ∷ 0 ∷ 0 ∷ 0 ∷ 0 ∷ 0 ∷ 0 ∷ 0 ∷ 0 ∷ 0 ∷ 9 ∷ []
 
 -- with the table of -133, a page of zeros of the right size, and a slice of six words
 abbrev calls : State → List ℕ → Verdict → ℕ → List ℕ → List ℕ → Row Left
@@ -264,6 +264,8 @@ many =
     -- 1, 3, 4, 6, 7 and 25 in this order: all faults at once, mended one by one
     ∷ unasked unfit 16383 (wrong 999 3) (replicate 15 0) 1
     ∷ unasked unfit 16383 (wrong 999 3) (replicate 17 0) 1
+    ∷ unasked unfit 16383 (wrong 999 3) (replicate 8 0) 1
+    ∷ unasked unfit 16383 (wrong 999 3) (replicate 24 0) 1
     ∷ unasked unfit 16383 (wrong 999 3) nop-bytes 3
     ∷ unasked unfit 16383 (wrong 65_536 3) (nop-bytes ++ nop-bytes) 3
     ∷ unasked unfit 16383 (wrong 1_000 3) nop-bytes 4
