@@ -12,6 +12,7 @@ each table that uses no other, then with all of them: most edits need no more th
     misfit    refused for anything else: the edit does not typecheck, or a proof no longer has the shape it needs. It shows nothing
     SURVIVED  every fact still holds
 """
+import concurrent.futures
 import functools
 import hashlib
 import os
@@ -19,7 +20,6 @@ import re
 import shutil
 import subprocess
 import sys
-import threading
 import time
 
 ROOT = os.path.dirname(os.path.dirname(os.path.abspath(__file__)))
@@ -171,21 +171,16 @@ def checked(place, names, jobs=1):
 
 
 class Base:
-    """The copy with no edit, proved when it is asked for."""
+    """The copy with no edit."""
 
-    def __init__(self, name, laws, jobs):
-        self.place, self.laws, self.jobs = os.path.join(HOME, name), laws, jobs
-        self.lock, self.ready = threading.Lock(), False
+    def __init__(self, name, laws):
+        self.place, self.laws = os.path.join(HOME, name), laws
 
-    def proved(self):
-        with self.lock:
-            if not self.ready:
-                stripped(self.place, self.laws)
-                status, text = checked(self.place, [], self.jobs)
-                if status:
-                    sys.exit("the definitions as they are do not hold (%s):\n%s" % (self.place, text))
-                self.ready = True
-        return self.place
+    def prove(self, jobs):
+        stripped(self.place, self.laws)
+        status, text = checked(self.place, [], jobs)
+        if status:
+            sys.exit("the definitions as they are do not hold (%s):\n%s" % (self.place, text))
 
 
 class Copy:
@@ -196,9 +191,8 @@ class Copy:
 
     def make(self):
         if not self.made:
-            proved = self.base.proved()
             shutil.rmtree(self.place, ignore_errors=True)
-            shutil.copytree(proved, self.place)
+            shutil.copytree(self.base.place, self.place)
             self.made = True
 
     def put_back(self, names):
@@ -211,8 +205,12 @@ class Copy:
 
 
 def copies(todo, jobs):
-    """For each job the two copies that it may need: with tables, and with laws."""
-    tabled, lawful = Base("facts", [], jobs), Base("laws", laws_for(todo), jobs)
+    """For each job the two copies that it may need: with tables, and with laws. Both are proved once, side by side, and then copied."""
+    tabled, lawful = Base("facts", []), Base("laws", laws_for(todo))
+    wanted = [b for b, laws in ((tabled, False), (lawful, True)) if any(bool(e.law) == laws for e in todo)]
+    with concurrent.futures.ThreadPoolExecutor(jobs) as pool:
+        for proved in [pool.submit(b.prove, max(1, jobs // len(wanted))) for b in wanted]:
+            proved.result()
     return [(Copy(tabled, i + 1), Copy(lawful, i + 1)) for i in range(jobs)]
 
 
