@@ -19,7 +19,6 @@ use Rattle.rules.specs.declared.Setup.{Setup}
 use Rattle.rules.specs.Parts.{bank-of}
 use Rattle.rules.specs.StartUp.{begun}
 use Rattle.rules.specs.Banks.{is-open, is-closed, banks-found}
-use Rattle.rules.specs.Closing.{burst-end}
 use Rattle.rules.specs.After.{
   core-from,
   core-after,
@@ -38,7 +37,7 @@ use Rattle.rules.specs.After.{
 }
 use Rattle.lookback.specs.Past.{clock-in, count, masks-at}
 use Rattle.lookback.specs.StartUp.{mode-in, startup-in}
-use Rattle.lookback.specs.Banks.{activates, auto-closes, precharges, row-in, status-in}
+use Rattle.lookback.specs.Banks.{activates, auto-closes, precharges, row-in, end-in, status-in}
 use Rattle.lookback.specs.Beats.{beat-in, stored-in}
 use Rattle.lookback.specs.Look.{bank-in, banks-in}
 use Rattle.lookback.proofs.Fold.{startup-step, last-step}
@@ -102,14 +101,11 @@ bank-split x false false true n addr p q d = refl
 bank-split x false false false n addr p q d = refl
 
 module _ (t : SpeedTable) (period : Ps) (r : Record) (past : List Record) (again : Bool) where
-  -- the end of the burst that r would register
-  abbrev end : Ps
-  end = burst-end (command r) t period (mode-in past) (clock-in past r)
-
   -- bank i after r's command, and after the beat on its clock
   abbrev commanded-bank : ℕ → Bank
   commanded-bank i =
-      bank-after (command r) t period end again r (clock-in past r) (at period (clock-in past r)) i (bank-in t period i past)
+      bank-after (command r) t period (end-in t period r past) again r (clock-in past r) (at period (clock-in past r)) i
+      (bank-in t period i past)
 
   abbrev left-bank : ℕ → Bank
   left-bank i = marked (stores-in (beat-in past r) i) (clock-in past r) (commanded-bank i)
@@ -120,7 +116,7 @@ module _ (t : SpeedTable) (period : Ps) (r : Record) (past : List Record) (again
   unfolding bank-after stored-in
   bank-one i h g =
       bank-split (stores-in (beat-in past r) i) (activates i r) (auto-closes i r) (precharges i r) (clock-in past r) (r .addr)
-      (auto-closed t period end (status-in t period i past))
+      (auto-closed t period (end-in t period r past) (status-in t period i past))
       (precharged again (at period (clock-in past r)) (status-in t period i past))
       (bank-in t period i past)
       ∙ (λ j. bank-of (status-step t period i r past again h g j) (last-step (activates i) r past j) (stored-in i (r ∷ past)))

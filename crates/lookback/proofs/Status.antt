@@ -7,25 +7,19 @@ use Rattle.units.specs.declared.Ps.{Ps}
 use Rattle.units.specs.Time.{at}
 use Rattle.speed.specs.declared.SpeedTable.{SpeedTable}
 use Rattle.layout.specs.declared.Record.{Record}
-use Rattle.layout.specs.Commands.{command}
 use Rattle.rules.specs.declared.Status.{Status}
 use Rattle.rules.specs.declared.Status.the-variants.{Open}
 use Rattle.rules.specs.Banks.{is-open, is-closed}
-use Rattle.rules.specs.Closing.{burst-end}
 use Rattle.rules.specs.After.{precharged, auto-closed}
 use Rattle.lookback.specs.Past.{clock-in, back-to}
-use Rattle.lookback.specs.StartUp.{mode-in}
-use Rattle.lookback.specs.Banks.{activates, auto-closes, precharges, or-these, back-to-close, status-by, status-in}
+use Rattle.lookback.specs.Banks.{activates, auto-closes, precharges, or-these, back-to-close, end-in, status-by, status-in}
 
 module _ (t : SpeedTable) (period : Ps) (i : ℕ) (r : Record) (past : List Record) (again : Bool) where
-  abbrev end : Ps
-  end = burst-end (command r) t period (mode-in past) (clock-in past r)
-
   -- the status after r, as the state has it
   abbrev pub status-next : Status → Status
   status-next x =
       cond (activates i r) (Open (r .addr) (clock-in past r))
-      (cond (auto-closes i r) (auto-closed t period (burst-end (command r) t period (mode-in past) (clock-in past r)) x)
+      (cond (auto-closes i r) (auto-closed t period (end-in t period r past) x)
       (cond (precharges i r) (precharged again (at period (clock-in past r)) x) x))
 
   pub status-step : (auto-closes i r ≡ true → is-open (status-in t period i past) ≡ true)
@@ -38,7 +32,7 @@ module _ (t : SpeedTable) (period : Ps) (i : ℕ) (r : Record) (past : List Reco
           → (b ≡ true → is-open (status-by t period i cl act) ≡ true)
           → (is-closed (status-by t period i cl act) ≡ true → again ≡ true)
           → cond a (Open (r .addr) (clock-in past r))
-          (cond b (auto-closed t period end (status-by t period i cl act))
+          (cond b (auto-closed t period (end-in t period r past) (status-by t period i cl act))
           (cond c (precharged again (at period (clock-in past r)) (status-by t period i cl act)) (status-by t period i cl act)))
           ≡ status-by t period i (cond a [] (or-these cl (cond (b || c) (r ∷ past) []))) (cond a (r ∷ past) act)
       go true b c cl act e f h g = refl

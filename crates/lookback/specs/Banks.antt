@@ -38,6 +38,7 @@ closes i r = auto-closes i r || precharges i r
 
 -- ── Its last ACTIVE ──
 
+-- "tRC since its last ACTIVE; tRRD since the last ACTIVE of another bank"
 abbrev pub last-active : ℕ → List Record → Event
 last-active i past = last-of (activates i) past
 
@@ -67,12 +68,14 @@ abbrev pub auto-time : SpeedTable → Ps → Event → Ps → Ps
 auto-time t period Never end = end
 auto-time t period (On n) end = closing-time t period n end
 
+-- the end of the burst that record r after these registers
+abbrev pub end-in : SpeedTable → Ps → Record → List Record → Ps
+end-in t period r past = burst-end (command r) t period (mode-in past) (clock-in past r)
+
 -- the time at which record r after these closes bank i
 abbrev pub close-time : SpeedTable → Ps → ℕ → Record → List Record → Ps
 close-time t period i r past =
-    cond (auto-closes i r)
-    (auto-time t period (last-active i past) (burst-end (command r) t period (mode-in past) (clock-in past r)))
-    (at period (clock-in past r))
+    cond (auto-closes i r) (auto-time t period (last-active i past) (end-in t period r past)) (at period (clock-in past r))
 
 -- ── Open or closed ──
 
@@ -86,5 +89,6 @@ abbrev pub status-by : SpeedTable → Ps → ℕ → List Record → List Record
 status-by t period i [] opens = opened-by opens
 status-by t period i (r ∷ past) opens = Closed (close-time t period i r past)
 
+-- "bank open", "bank closed", or neither before the first PRECHARGE ALL
 abbrev pub status-in : SpeedTable → Ps → ℕ → List Record → Status
 status-in t period i past = status-by t period i (back-to-close i past) (back-to (activates i) past)

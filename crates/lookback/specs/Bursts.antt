@@ -19,9 +19,11 @@ use Rattle.lookback.specs.Past.{clock-in, stands}
 use Rattle.lookback.specs.StartUp.{mode-in}
 use Rattle.lookback.specs.Banks.{precharges, row-in}
 
+-- "READ"
 abbrev pub reads : Record → Bool
 reads r = is (command r) Read
 
+-- "WRITE"
 abbrev pub writes : Record → Bool
 writes r = is (command r) Write
 
@@ -35,11 +37,11 @@ cells-in r past i masks = cells-at (r .ba) (row-in (r .ba) past) (mode-in past) 
 abbrev pub cuts-write : ℕ → Record → Bool
 cuts-write i r = access (command r) || is (command r) Terminate || precharges i r
 
--- of all these records: WRITE r, after `past`, has beat i, not "lost if .. stands at x with w < x <= w + i"
+-- of all these records: the WRITE after `past` has beat i, not "lost if .. stands at x with w < x <= w + i"
 abbrev pub write-has : List Record → Record → List Record → ℕ → Bool
-write-has all r past i =
-    let w = clock-in past r .0 in
-    (write-endless (mode-in past) || ltb i (write-length (mode-in past))) && not (stands (cuts-write (r .ba)) w (w + i) all)
+write-has all write past i =
+    let w = clock-in past write .0 in
+    (write-endless (mode-in past) || ltb i (write-length (mode-in past))) && not (stands (cuts-write (write .ba)) w (w + i) all)
 
 -- the beat on clock n of the last WRITE that has one, with these masks: "WRITE at w: beat i on w + i"
 unfoldable pub write-on : List Record → ℕ → Clock → List Record → Beat
@@ -55,13 +57,13 @@ write-on all masks n (r ∷ past) =
 abbrev pub cuts-read : ℕ → Record → Bool
 cuts-read i r = reads r || is (command r) Terminate || precharges i r
 
--- of all these records: READ r, after `past`, has beat i, not "lost if .. stands at x with r < x <= r + i, or a WRITE at x with
+-- of all these records: the READ after `past` has beat i, not "lost if .. stands at x with r < x <= r + i, or a WRITE at x with
 -- r < x <= r + CL + i"
 abbrev pub read-has : List Record → Record → List Record → ℕ → Bool
-read-has all r past i =
-    let x = clock-in past r .0 in
+read-has all read past i =
+    let r = clock-in past read .0 in
     (full-page (mode-in past) || ltb i (length-of (mode-in past)))
-    && (not (stands (cuts-read (r .ba)) x (x + i) all) && not (stands writes x (x + latency (mode-in past) + i) all))
+    && (not (stands (cuts-read (read .ba)) r (r + i) all) && not (stands writes r (r + latency (mode-in past) + i) all))
 
 -- the clock of its beat 0
 abbrev pub read-first : Record → List Record → ℕ

@@ -33,6 +33,7 @@ abbrev pub refreshes-by : ℕ → Event → Refreshes
 refreshes-by n Never = None
 refreshes-by n (On x) = cond (ltb n 2) (One x) (Two x)
 
+-- the refreshes done, and the last of them: 12, and "tRFC since the last refresh"
 abbrev pub refreshes-in : List Record → Refreshes
 refreshes-in past = refreshes-by (count-of refreshes past) (last-of refreshes past)
 
@@ -41,6 +42,7 @@ abbrev pub loaded-by : List Record → Register
 loaded-by [] = Unloaded
 loaded-by (r ∷ past) = Loaded (r .addr) (clock-in past r)
 
+-- what the last LOAD MODE left: "tMRD since the last mode load"
 abbrev pub register-in : List Record → Register
 register-in past = loaded-by (back-to loads past)
 
