@@ -3,7 +3,6 @@ ghost use Prim.Native.Nat.{_-_, max};
 ghost use mathlib.Core.Path.{_≡_};
 ghost use Rattle.units.specs.Time.{clock};
 ghost use Rattle.bursts.specs.Burst.{before-cut, in-time, has-beat, lanes-low, cells-at, write-beat, reads-on, to-come, read-beat, finished};
-ghost use Rattle.bursts.specs.Bus.{stores-in};
 use crate::Beat;
 use crate::Burst;
 use crate::Cells;
@@ -168,18 +167,5 @@ impl Burst {
             return false;
         }
         length as u64 <= n.0 - start
-    }
-}
-
-impl Beat {
-    // A byte is stored in bank i. tWR counts from here, so a beat whose lanes are all masked is none.
-    pub fn stores_in(self, i: u8) -> bool
-        ensures { λ r. ⌜ r ≡ stores-in self i ⌝ }
-    {
-        match self {
-            Beat::Quiet => false,
-            Beat::Stores(cells) => (i == cells.bank) & (cells.lanes != 0),
-            Beat::Drives(_) => false,
-        }
     }
 }

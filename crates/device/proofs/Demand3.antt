@@ -23,14 +23,14 @@ use Rattle.rules.specs.Parts.{state-module}
 use Rattle.rules.specs.OneRecord.{state-rules}
 use Rattle.rules.specs.After.{next}
 use Rattle.rules.specs.Run.{Line, Run, run, page-after}
-use Rattle.rules.specs.Report.{lines-into, Left, left, ran, fold, records-rules, room, above-number-max, past-room, records-call}
+use Rattle.rules.specs.Report.{lines-into, Left, left, ran, fold, records-rules, room, above-number-max, past-room, within-room, records-in, records-call, call-run}
 use Rattle.rules.specs.Harder.{NowhereHarder}
-use Rattle.rules.specs.Demand3.{within-room, records-in, taken-in, up-to-stop, Demand3, Demand3Holds}
+use Rattle.rules.specs.Demand3.{taken-in, up-to-stop, Demand3, Demand3Holds}
 use Rattle.rules.proofs.Easier.{setup}
 use Rattle.rules.proofs.Runs.{by-answer}
 use Rattle.rules.proofs.Demand3.{Follows, demand-3, demand-3-before}
 use Rattle.device.proofs.FoldRun.{from-run, fold-run}
-use Rattle.device.proofs.Starts.{records-ladder, most-within, most-room, entry-of, records-within, records-refused, records-entered, records-past}
+use Rattle.device.proofs.Starts.{run-in, run-out, records-ladder, most-within, most-room, entry-of, records-within, records-refused, records-entered, records-past}
 
 -- ── Runs and records ──
 
@@ -103,15 +103,15 @@ module _ (u : Setup) (s : State) (bytes page beats : List ℕ) where
 module _ (u : Setup) (s : State) (bytes : List ℕ) (lent : ℕ) where
   taken-some : first-broken (records-rules u s (length bytes) lent) ≡ Taken
       → taken-in u s bytes lent ≡ length (run u s (records-in s bytes) .lines)
-  taken-some p = rw (p, taken-in)
+  taken-some p = ap (λ v. length (v .lines)) (run-in u s bytes lent p)
 
   taken-none : (n i : ℕ) → first-broken (records-rules u s (length bytes) lent) ≡ Refused n i → taken-in u s bytes lent ≡ 0
-  taken-none n i p = rw (p, taken-in)
+  taken-none n i p = ap (λ v. length (v .lines)) (run-out u s bytes lent n i p)
 
 -- no records leave page and beats
 module _ (u : Setup) (s : State) (page beats : List ℕ) where
   none-left : (records-call u s [] page beats .page ≡ page) × (records-call u s [] page beats .beats ≡ beats)
-  unfolding fold records-of
+  unfolding fold records-of run page-after lines-into
   none-left = go (first-broken (records-rules u s 0 (length page))) refl
     where
       go : (v : Verdict) → first-broken (records-rules u s 0 (length page)) ≡ v

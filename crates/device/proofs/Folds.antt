@@ -23,13 +23,14 @@ use Rattle.rules.specs.declared.Verdict.the-variants.{Taken, Refused}
 use Rattle.rules.specs.Numbers.{first-broken}
 use Rattle.rules.specs.Parts.{clock-of, core-module, state-module}
 use Rattle.rules.specs.Rules.{rules, found, ask}
-use Rattle.rules.specs.After.{core-from, core-after, next, page-next}
-use Rattle.rules.specs.Run.{line}
+use Rattle.rules.specs.After.{core-from, core-after, next}
 use Rattle.parts.specs.Reach.{Able, Call}
-use Rattle.rules.specs.Report.{put-line, left, ran, fold}
+use Rattle.rules.specs.Report.{put-line}
 use Rattle.rules.proofs.Admitted.{bank-fits-at}
 use Rattle.rules.proofs.Runs.{next-number}
 use Rattle.rules.proofs.Stays.{stays}
+use Rattle.device.specs.Engine.{went, gone, went-by}
+use Rattle.device.proofs.FoldRun.{went-taken, went-refused}
 use Rattle.device.proofs.InPlace.{Settled}
 
 -- ── What a state from which records may be judged gives ──
@@ -78,18 +79,7 @@ asked-as u s r hc hn hv =
     sym
     (hv ∙ (λ i. first-broken (rules (u .table) (core-module (hc i)) (hc i .period) (found (hc i) (s .banks) (hn i)) r (hn i) (at (hc i .period) (hn i)))))
 
--- ── The fold ──
-
-pub fold-taken : (u : Setup) (s : State) (r : Record) (rs : List Record) (page beats : List ℕ) → ask u s r ≡ Taken
-    → fold u s (r ∷ rs) page beats
-    ≡ fold u (next u s r) rs (page-next s r page) (put-line (s .core .number) (line s r) beats)
-unfolding fold
-fold-taken u s r rs page beats p = rw (p, fold)
-
-pub fold-refused : (u : Setup) (s : State) (r : Record) (rs : List Record) (page beats : List ℕ) (n i : ℕ) → ask u s r ≡ Refused n i
-    → fold u s (r ∷ rs) page beats ≡ left (ran (Refused n i) (s .core .number)) page beats
-unfolding fold
-fold-refused u s r rs page beats n i p = rw (p, fold)
+-- ── The turns ──
 
 module _ (bytes : List ℕ) (count k : ℕ) (more : k < count) where
   -- the records from k on are record k and those from k + 1 on
@@ -101,7 +91,7 @@ module _ (bytes : List ℕ) (count k : ℕ) (more : k < count) where
       ap (λ (x : ℕ). records-of m x (drop (16 * k) bytes)) (c ∙ add-one (count - (k + 1)))
       ∙ ap (λ (l : List ℕ). record-of m (take 16 (drop (16 * k) bytes)) ∷ records-of m (count - (k + 1)) l) (drop-drop 16 (16 * k) bytes ∙ ap (λ (x : ℕ). drop x bytes) a)
 
-  module _ (u : Setup) (s : State) (r : Record) (page beats part : List ℕ) (same : part ≡ take 16 (drop (16 * k) bytes))
+  module _ (u : Setup) (s : State) (r : Record) (w₀ : Beat) (page beats part : List ℕ) (same : part ≡ take 16 (drop (16 * k) bytes))
       (read : r ≡ record-of (state-module s) part) where
     abbrev m : Module
     m = state-module s
@@ -109,21 +99,21 @@ module _ (bytes : List ℕ) (count k : ℕ) (more : k < count) where
     abbrev after : List Record
     after = records-of m (count - (k + 1)) (drop (16 * (k + 1)) bytes)
 
-    turn-at : fold u s (records-of m (count - k) (drop (16 * k) bytes)) page beats ≡ fold u s (r ∷ after) page beats
+    turn-at : went-by u s (records-of m (count - k) (drop (16 * k) bytes)) w₀ page beats ≡ went-by u s (r ∷ after) w₀ page beats
     turn-at =
-        ap (λ (rs : List Record). fold u s rs page beats) (rest m)
-        ∙ ap (λ (x : Record). fold u s (x ∷ after) page beats) (sym (read ∙ ap (record-of m) same))
+        ap (λ (rs : List Record). went-by u s rs w₀ page beats) (rest m)
+        ∙ ap (λ (x : Record). went-by u s (x ∷ after) w₀ page beats) (sym (read ∙ ap (record-of m) same))
 
     -- a record that is taken
     module _ (p : ask u s r ≡ Taken) {st : State} {w : Beat} (x : Settled u s r st w) where
       pub goes-on : {n : Clock} {page′ beats′ : List ℕ} → n ≡ clock-of (s .core) r
           → page′ ≡ stored (state-module s) (s .core .bank) (s .core .row) (r .dq) w page
           → beats′ ≡ put-line (s .core .number) (record { clock = n; beat = w }) beats
-          → fold u s (records-of m (count - k) (drop (16 * k) bytes)) page beats
-          ≡ fold u st after page′ beats′
+          → went-by u s (records-of m (count - k) (drop (16 * k) bytes)) w₀ page beats
+          ≡ went-by u st after w page′ beats′
       goes-on hn hp hb =
           turn-at
-          ∙ fold-taken u s r after page beats p
+          ∙ went-taken u s r after page beats w₀ p
           ∙ sym (rw (hb, hp, hn, x .state, x .beat))
 
       pub stays-able : Able u s (count - k) → Able u st (count - (k + 1))
@@ -136,5 +126,5 @@ module _ (bytes : List ℕ) (count k : ℕ) (more : k < count) where
 
     -- one that is refused
     pub stops : (n i : ℕ) → ask u s r ≡ Refused n i
-        → fold u s (records-of m (count - k) (drop (16 * k) bytes)) page beats ≡ left (ran (Refused n i) (s .core .number)) page beats
-    stops n i p = turn-at ∙ fold-refused u s r after page beats n i p
+        → went-by u s (records-of m (count - k) (drop (16 * k) bytes)) w₀ page beats ≡ gone (went (Refused n i) (s .core .number) w₀ s) page beats
+    stops n i p = turn-at ∙ went-refused u s r after page beats w₀ n i p

@@ -47,7 +47,6 @@ use Rattle.rules.specs.After.{
   core-from,
   core-after,
   banks-after,
-  taking,
   own-beat,
   next,
   commanded,
@@ -141,17 +140,3 @@ module _ (u : Setup) (s : State) (r : Record) {k : Command} {n : Clock} {bus : B
   settled hk hn hb hs hw ho ht =
       let e : w ≡ own-beat s r = rw (hw, hb, hn, hk) in
       record { state = rw (ht, ho, e, hs, hb, hn, hk); beat = e }
-
-  -- the same with the core built at once: what taking gives
-  pub taken : k ≡ command r → n ≡ clock-of (s .core) r
-      → bus ≡ bus-after k r n (word-in (s .core .startup .register)) (row-of (bank-at (s .banks) (r .ba) .status)) (s .core .bus)
-      → w ≡ beat-on (s .core .last) (s .core .bus .masks) (bus .write) (bus .reads) (r .masks) n
-      → one
-      ≡ commanded k (u .table) (s .core .period) (burst-end k (u .table) (s .core .period) (word-in (s .core .startup .register)) n)
-      (begun (s .core .startup)) r n (at (s .core .period) n) (s .banks)
-      → two ≡ mark-banks w n one → {core : Core} → core ≡ core-from (s .core) k r n bus
-      → record { beat = w; next = record { core = core; banks = two } } ≡ taking u s r
-  unfolding core-from
-  taken hk hn hb hw ho ht hc =
-      let x = settled hk hn hb refl hw ho ht in
-      ap (λ (c : Core). record { beat = w; next = record { core = c; banks = two } }) hc ∙ (λ i. record { beat = x .beat i; next = x .state i })

@@ -1,7 +1,7 @@
 pub mod InPlace
 pub mod Ahead
-pub mod Starts
-pub mod Turns
-pub mod Folds
 pub mod FoldRun
+pub mod Starts
+pub mod Folds
+pub mod OneRecord
 pub mod Demand3

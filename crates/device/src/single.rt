@@ -1,90 +1,91 @@
-// The one-record call: what it tries before the record is looked at, and its answer.
+// One record: asked, taken, or asked and then taken.
 ghost use mathlib.Core.Path.{_≡_};
-ghost use Rattle.rules.specs.Numbers.{first-broken, number-of, interval-of};
-ghost use Rattle.rules.specs.OneRecord.{fit-rules, state-rules, answer-of, stepped, step};
+ghost use Rattle.rules.specs.Numbers.{number-of, interval-of};
+ghost use Rattle.rules.specs.OneRecord.{answer-of, ask-call, took, take-call, stepped, step};
+ghost use Rattle.device.specs.Engine.{reported-by};
 use crate::Device;
 use crate::Outcome;
-use crate::Turn;
-use crate::call;
+use crate::Took;
+use crate::engine;
 use bursts::Beat;
-use layout::RecordBytes;
-use parts::admitting;
 use rules::Answer;
 use rules::Setup;
-use rules::State;
 use rules::Verdict;
-use units::Module;
 
-// 6, 7 and 25.
-fn fit_verdict(u: Setup, s: State, lent: usize) -> Verdict
-    ensures { λ x. ⌜ x ≡ first-broken (fit-rules u s lent) ⌝ }
-{
-    let core = s.core;
-    let t = u.table;
-    let m = Module::of_grade(core.grade);
-    if t.fits() {
-        if lent == m.page_bytes() {
-            if admitting::fits(s) {
-                return Verdict::Taken;
-            }
-            return Verdict::refused(25);
-        }
-        return Verdict::refused(7);
-    }
-    Verdict::refused(6)
-}
-
-// 3, 4, 6, 7 and 25.
-pub fn state_verdict(u: Setup, s: State, lent: usize) -> Verdict
-    ensures { λ x. ⌜ x ≡ first-broken (state-rules u s lent) ⌝ }
-{
-    let core = s.core;
-    if rules::period_fits(core.period) {
-        if rules::grade_known(core.grade) {
-            return fit_verdict(u, s, lent);
-        }
-        return Verdict::refused(4);
-    }
-    Verdict::refused(3)
-}
-
-fn answered(v: Verdict, reported: u64, beat: Beat, s: State) -> Outcome
-    ensures { λ r. ⌜ r ≡ record { answer = answer-of (number-of v) (interval-of v) reported beat; next = record { 0 = s } } ⌝ }
+// "Number 0 and its own number" where the record is taken; else what was found.
+fn answer(v: Verdict, reported: u64, own: u64, beat: Beat) -> Answer
+    ensures { λ r. ⌜ r ≡ answer-of (number-of v) (interval-of v) (reported-by v reported own) beat ⌝ }
 {
     let number = v.number();
     let interval = v.interval();
-    let answer = Answer {
+    let Verdict::Taken = v else {
+        return Answer {
+            number,
+            interval,
+            reported,
+            beat,
+        };
+    };
+    Answer {
         number,
         interval,
-        reported,
+        reported: own,
         beat,
-    };
-    let next = Device(s);
-    Outcome { answer, next }
+    }
 }
 
 impl Device {
-    // One record: the state goes in, and the answer comes back beside the next state. The rules are tried in document 01's
-    // order; a record that is not taken leaves state and page as they were.
+    // May this record stand next? Nothing is changed: the engine judges it from a copy of the state and stores in no page. The
+    // page is lent for number 7 alone.
+    pub fn ask(self, setup: Setup, bytes: &[u8], page: &[u8]) -> Answer
+        ensures { λ r. ⌜ r ≡ ask-call setup (self .0) (now (bytes .entry)) (now (page .entry)) ⌝ }
+    {
+        let quiet = Beat::Quiet;
+        if bytes.len() != 16 {
+            let wrong = Verdict::refused(1);
+            return answer(wrong, 0, 0, quiet);
+        }
+        let s = self.0;
+        let core = s.core;
+        let mut no_page = [0u8; 1];
+        let mut no_beats = [0u64; 1];
+        let w = engine::judge(setup, s, bytes, page.len(), &mut no_page[0..0], &mut no_beats[0..0]);
+        let v = w.verdict;
+        answer(v, w.reported, core.number, quiet)
+    }
+
+    // Takes a record: the beat on its clock and the next state. A record that asking refuses, for any reason, leaves state and
+    // page as they were and has no beat.
+    pub fn take(self, setup: Setup, bytes: &[u8], page: &mut [u8]) -> Took
+        ensures { λ r. ⌜ took (r .beat) (r .next .0) (now (page .exit)) ≡ take-call setup (self .0) (now (bytes .entry)) (now (page .entry)) ⌝ }
+    {
+        if bytes.len() != 16 {
+            let beat = Beat::Quiet;
+            return Took { beat, next: self };
+        }
+        let lent = page.len();
+        let mut no_beats = [0u64; 1];
+        let w = engine::judge(setup, self.0, bytes, lent, page, &mut no_beats[0..0]);
+        let beat = w.beat;
+        let state = w.next;
+        let next = Device(state);
+        Took { beat, next }
+    }
+
+    // Ask, then take.
     pub fn record(self, setup: Setup, bytes: &[u8], page: &mut [u8]) -> Outcome
         ensures { λ r. ⌜ stepped (r .answer) (r .next .0) (now (page .exit)) ≡ step setup (self .0) (now (bytes .entry)) (now (page .entry)) ⌝ }
     {
-        let s = self.0;
-        let quiet = Beat::Quiet;
-        let core = s.core;
-        let m = Module::of_grade(core.grade);
-        let RecordBytes::Whole(r) = layout::read_record(m, bytes) else {
-            let v = Verdict::refused(1);
-            return answered(v, 0, quiet, s);
+        let asked = self.ask(setup, bytes, page);
+        let took = self.take(setup, bytes, page);
+        let beat = took.beat;
+        let next = took.next;
+        let answer = Answer {
+            number: asked.number,
+            interval: asked.interval,
+            reported: asked.reported,
+            beat,
         };
-        let v = state_verdict(setup, s, page.len());
-        let Verdict::Taken = v else {
-            return answered(v, 0, quiet, s);
-        };
-        let turn = call::turn(setup, s, r, page);
-        let verdict = turn.verdict;
-        let beat = turn.beat;
-        let next = turn.next;
-        answered(verdict, core.number, beat, next)
+        Outcome { answer, next }
     }
 }

@@ -27,18 +27,19 @@ use Rattle.rules.specs.declared.Verdict.the-variants.{Taken, Refused}
 use Rattle.rules.specs.Parts.{state-module}
 use Rattle.rules.specs.Numbers.{first-broken}
 use Rattle.rules.specs.Rules.{ask}
-use Rattle.rules.specs.After.{own-beat, core-from, core-after, next, page-next}
-use Rattle.rules.specs.Run.{line}
-use Rattle.rules.specs.OneRecord.{period-fits, grade-known, state-rules, entry-rules, Stepped, refused, taken, step, record-for}
-use Rattle.rules.specs.Report.{put-line, Left, left, ran, fold, records-rules, room, past-room, records-call}
+use Rattle.rules.specs.After.{own-beat, core-from, core-after, next}
+use Rattle.rules.specs.Run.{line, run, page-after}
+use Rattle.rules.specs.OneRecord.{period-fits, grade-known, state-rules, entry-rules, Stepped, step, record-for}
+use Rattle.rules.specs.Report.{put-line, lines-into, Left, left, ran, fold, records-rules, room, past-room, records-call}
 use Rattle.rules.specs.Fits.{number-max, fits}
 use Rattle.rules.proofs.Admitted.{admitted, fits-admitted}
 use Rattle.rules.proofs.Kept.{kept}
-use Rattle.rules.proofs.Runs.{next-number}
-use Rattle.rules.proofs.OneRecord.{judged-refused, step-entered, entry-refused, taken-at-zero, step-taken}
+use Rattle.rules.proofs.Runs.{next-number, page-next}
+use Rattle.rules.proofs.OneRecord.{refused, taken, step-refuses, entry-refused, taken-at-zero, step-taken}
 use Rattle.parts.specs.Reach.{Able}
 use Rattle.device.proofs.Starts.{at-most, Entry, entry-of, records-entered, records-past}
-use Rattle.device.proofs.Folds.{able-next, fold-taken, fold-refused}
+use Rattle.device.proofs.Folds.{able-next}
+use Rattle.device.proofs.FoldRun.{fold-taken, fold-refused}
 use Rattle.hawsehole.specs.Trace.{start-of}
 use Rattle.hawsehole.specs.Numbers.{whole-call}
 use Rattle.hawsehole.specs.Walk.{walk}
@@ -127,7 +128,7 @@ module _ (u : Setup) (s : State) (k : ℕ) (bytes page beats : List ℕ) where
     asked-refused : (n i : ℕ) → ask u s first ≡ Refused n i
         → walk u s (suc k) bytes page beats ≡ left (ran (Refused n i) (s .core .number)) page beats
     asked-refused n i q =
-        let w : step u s (take 16 bytes) page ≡ refused n i (s .core .number) s page = step-entered u s (take 16 bytes) page p ∙ judged-refused u s first page n i q in
+        let w = step-refuses u s (take 16 bytes) page p n i q in
         walk-refused n i w
         (ne-eqb n 0
         (λ z.
@@ -160,7 +161,7 @@ module _ (u : Setup) (more total : ℕ) (after : Left → Left)
   ready-walk : (s : State) (count : ℕ) (bytes page beats : List ℕ) → length bytes ≡ 16 * longer count more → Ready u s count page
       → s .core .number + count ≡ total
       → walk u s (longer count more) bytes page beats ≡ after (fold u s (records-of (state-module s) count bytes) page beats)
-  unfolding walk fold records-of next core-after core-from
+  unfolding walk fold run page-after lines-into records-of next core-after core-from
   ready-walk s zero bytes page beats h e k = base s bytes page beats h e (omega (arith, k))
   ready-walk s (suc c) bytes page beats h e k =
       go (ask u s r) refl

@@ -15,8 +15,11 @@ whole-call u trace page beats =
     left (ran (j .verdict) (j .reported)) (j .page) (lines-into 0 (j .lines) beats)
 
 -- bits 0 to 7 the number, 8 to 15 the interval, 16 to 39 the record
+abbrev pub word-of : ℕ → ℕ → ℕ → ℕ
+word-of number interval reported = number + interval * 2 ^ 8 + reported % 2 ^ 24 * 2 ^ 16
+
 unfoldable pub answer-word : Ran → ℕ
-answer-word r = number-of (r .verdict) + interval-of (r .verdict) * 2 ^ 8 + r .reported % 2 ^ 24 * 2 ^ 16
+answer-word r = word-of (number-of (r .verdict)) (interval-of (r .verdict)) (r .reported)
 
 -- what the call leaves
 pub record Answered : Type 0 where

@@ -74,7 +74,8 @@ pub fn judge(u: Setup, trace: &[u8], page: &mut [u8], beats: &mut [u64]) -> Ran
         };
     };
     let start = Device::start(Ps(h.period as u64), h.grade, h.bank, h.row);
-    start.records(u, &trace[16..], page, beats)
+    let judged = start.records(u, &trace[16..], page, beats);
+    judged.ran
 }
 
 // The answer as one number: bits 0 to 7 the number, 8 to 15 the interval, 16 to 39 the record.

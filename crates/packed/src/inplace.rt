@@ -41,6 +41,13 @@ pub fn hold(banks: [Bank; 4]) -> [u64; 32]
     held
 }
 
+// The banks that are held.
+pub fn banks(held: &[u64; 32]) -> [Bank; 4]
+    ensures { λ r. ⌜ r ≡ banks-in (now (held .entry)) ⌝ }
+{
+    numbers::banks(held)
+}
+
 // Number 13, of the four.
 fn rows_within(period: Ps, max: Ps, moment: Ps, held: &[u64; 32]) -> bool
     requires { ⌜ FitPeriod period × BanksFit (banks-in (now held)) ⌝ }

@@ -2,13 +2,13 @@
 use Prim.Native.Nat.{ℕ, _≤_, _<_}
 use native.Mathlib.Nat.{le-refl}
 use native.Mathlib.Omega.{arith}
-use mathlib.Core.Path.{_≡_, refl, subst}
+use mathlib.Core.Path.{_≡_, refl, ap, sym, subst, _∙_}
 use mathlib.Core.Bool.{Bool, true, false, _||_, cond}
-use mathlib.Core.List.{List}
+use mathlib.Core.List.{List, [], _∷_}
 use lib.Dec.{leb, ltb, eqb}
 use borrow.Author.Tests.{leb-true, eqb-true, lt-ltb}
 use Rattle.units.specs.declared.Ps.{Ps}
-use Rattle.units.proofs.Both.{both}
+use Rattle.units.proofs.Both.{both as both-true}
 use Rattle.speed.specs.declared.SpeedTable.{SpeedTable}
 use Rattle.speed.specs.Table.{table-fits}
 use Rattle.speed.proofs.Bounds.{bounds}
@@ -33,7 +33,9 @@ use Rattle.rules.specs.Rules.{every-rules, place-rules, minimum-rules, m
 use Rattle.rules.specs.Fits.{bank-fits, core-fits, fits, number-max}
 use Rattle.rules.specs.Admitted.{Admitted}
 use Rattle.rules.specs.After.{own-beat, beat, core-after, banks-after, next}
-use Rattle.rules.specs.OneRecord.{period-fits, grade-known, state-rules, entry-rules, Stepped, stepped, answer-of, refused, taken, judged, step, record-for}
+use Rattle.rules.specs.OneRecord.{period-fits, grade-known, state-rules, entry-rules, answer-of, found-of, ask-call, took, left-by, take-record, take-call, Stepped, stepped, both, step, record-for}
+use Rattle.rules.specs.Run.{run, page-after, all-taken}
+use Rattle.rules.proofs.Runs.{page-next, run-taken, run-refused}
 use Rattle.rules.specs.Harder.{NowhereHarder, Near, same, earlier, NearBanks, NearStates, near}
 use Rattle.rules.proofs.Tests.{_⊑_, ⊑-self, ⊑-true, ⊑-leb, ⊑-and, Softer, end, _▸_, softer-taken}
 use Rattle.rules.proofs.Kept.{rules-of, command-rules-of, kept, all-numbers, numbers-asked, zero-taken}
@@ -58,25 +60,94 @@ known-bench grade h = go (eqb grade 1) refl h
 
 -- ── By what is found ──
 
-pub judged-taken : (u : Setup) (s : State) (r : Record) (page : List ℕ) → ask u s r ≡ Taken → judged u s r page ≡ taken u s r page
-unfolding judged
-judged-taken u s r page p = rw (p, judged)
+-- "the refused record changes neither state nor page"
+abbrev pub refused : ℕ → ℕ → ℕ → State → List ℕ → Stepped
+refused number interval reported s page = stepped (answer-of number interval reported Quiet) s page
 
-pub judged-refused : (u : Setup) (s : State) (r : Record) (page : List ℕ) (n i : ℕ) → ask u s r ≡ Refused n i
-    → judged u s r page ≡ refused n i (s .core .number) s page
-unfolding judged
-judged-refused u s r page n i p = rw (p, judged)
+-- "a taken record 0 and its own number"
+abbrev pub taken : Setup → State → Record → List ℕ → Stepped
+taken u s r page = stepped (answer-of 0 0 (s .core .number) (own-beat s r)) (next u s r) (page-next s r page)
 
-pub step-entered : (u : Setup) (s : State) (bytes page : List ℕ) → first-broken (entry-rules u s bytes page) ≡ Taken
-    → step u s bytes page ≡ judged u s (record-for s bytes) page
-unfolding step
-step-entered u s bytes page p = rw (p, step)
+-- a run of one record
+pub take-taken : (u : Setup) (s : State) (r : Record) (page : List ℕ) → ask u s r ≡ Taken
+    → take-record u s r page ≡ took (own-beat s r) (next u s r) (page-next s r page)
+unfolding run all-taken page-after
+take-taken u s r page p = ap (left-by u s (r ∷ []) page) (run-taken u s r [] p)
 
--- 1, 3, 4, 6, 7 AND 25 LEAVE ALL AND REPORT RECORD 0
-pub entry-refused : (u : Setup) (s : State) (bytes page : List ℕ) (n i : ℕ) → first-broken (entry-rules u s bytes page) ≡ Refused n i
-    → step u s bytes page ≡ refused n i 0 s page
-unfolding step
-entry-refused u s bytes page n i p = rw (p, step)
+pub take-refused : (u : Setup) (s : State) (r : Record) (page : List ℕ) (n i : ℕ) → ask u s r ≡ Refused n i
+    → take-record u s r page ≡ took Quiet s page
+unfolding all-taken page-after
+take-refused u s r page n i p = ap (left-by u s (r ∷ []) page) (run-refused u s r [] n i p)
+
+module _ (u : Setup) (s : State) (bytes page : List ℕ) where
+  module _ (p : first-broken (entry-rules u s bytes page) ≡ Taken) where
+    pub asked-entered : ask-call u s bytes page ≡ found-of (ask u s (record-for s bytes)) (s .core .number)
+    unfolding ask-call
+    asked-entered = rw (p, ask-call)
+
+    pub took-entered : take-call u s bytes page ≡ take-record u s (record-for s bytes) page
+    unfolding take-call
+    took-entered = rw (p, take-call)
+
+    pub step-takes : ask u s (record-for s bytes) ≡ Taken → step u s bytes page ≡ taken u s (record-for s bytes) page
+    unfolding step
+    step-takes q =
+        λ i. both ((asked-entered ∙ ap (λ v. found-of v (s .core .number)) q) i) ((took-entered ∙ take-taken u s (record-for s bytes) page q) i)
+
+    pub step-refuses : (n i : ℕ) → ask u s (record-for s bytes) ≡ Refused n i → step u s bytes page ≡ refused n i (s .core .number) s page
+    unfolding step
+    step-refuses n i q =
+        λ k. both ((asked-entered ∙ ap (λ v. found-of v (s .core .number)) q) k) ((took-entered ∙ take-refused u s (record-for s bytes) page n i q) k)
+
+  -- 1, 3, 4, 6, 7 AND 25 LEAVE ALL AND REPORT RECORD 0
+  module _ (n i : ℕ) (p : first-broken (entry-rules u s bytes page) ≡ Refused n i) where
+    pub asked-out : ask-call u s bytes page ≡ found-of (Refused n i) 0
+    unfolding ask-call
+    asked-out = rw (p, ask-call)
+
+    pub took-out : take-call u s bytes page ≡ took Quiet s page
+    unfolding take-call
+    took-out = rw (p, take-call)
+
+    pub entry-refused : step u s bytes page ≡ refused n i 0 s page
+    unfolding step
+    entry-refused = λ k. both (asked-out k) (took-out k)
+
+-- ASKING, THEN TAKING, IS THE ONE-RECORD CALL AS IT STOOD BEFORE IT WAS SPLIT: one elimination of what is found before the record is looked
+-- at, and one of what is asked of it
+pub as-before : (u : Setup) (s : State) (bytes page : List ℕ)
+    → step u s bytes page
+    ≡ elim (first-broken (entry-rules u s bytes page)) [
+      | Taken ↦
+          elim (ask u s (record-for s bytes)) [
+            | Taken ↦ taken u s (record-for s bytes) page
+            | Refused n i ↦ refused n i (s .core .number) s page
+          ]
+      | Refused n i ↦ refused n i 0 s page
+    ]
+as-before u s bytes page = enter (first-broken (entry-rules u s bytes page)) refl
+  where
+    Old : Verdict → Stepped
+    Old v =
+        elim v [
+          | Taken ↦
+              elim (ask u s (record-for s bytes)) [
+                | Taken ↦ taken u s (record-for s bytes) page
+                | Refused n i ↦ refused n i (s .core .number) s page
+              ]
+          | Refused n i ↦ refused n i 0 s page
+        ]
+
+    Asked : Verdict → Stepped
+    Asked v = elim v [ Taken ↦ taken u s (record-for s bytes) page | Refused n i ↦ refused n i (s .core .number) s page ]
+
+    enter : (v : Verdict) → first-broken (entry-rules u s bytes page) ≡ v → step u s bytes page ≡ Old (first-broken (entry-rules u s bytes page))
+    enter (Refused n i) p = entry-refused u s bytes page n i p ∙ sym (ap Old p)
+    enter Taken p = look (ask u s (record-for s bytes)) refl ∙ sym (ap Old p)
+      where
+        look : (v : Verdict) → ask u s (record-for s bytes) ≡ v → step u s bytes page ≡ Asked (ask u s (record-for s bytes))
+        look Taken q = step-takes u s bytes page p q ∙ sym (ap Asked q)
+        look (Refused n i) q = step-refuses u s bytes page p n i q ∙ sym (ap Asked q)
 
 -- what holds of a call, shown by what it finds
 pub by-step : (P : Stepped → Type 0) (u : Setup) (s : State) (bytes page : List ℕ)
@@ -87,11 +158,11 @@ by-step P u s bytes page f g = enter (first-broken (entry-rules u s bytes page))
   where
     enter : (v : Verdict) → first-broken (entry-rules u s bytes page) ≡ v → P (step u s bytes page)
     enter (Refused n i) p = rw (entry-refused u s bytes page n i p) (g n i 0)
-    enter Taken p = rw (step-entered u s bytes page p) (look (ask u s (record-for s bytes)) refl)
+    enter Taken p = look (ask u s (record-for s bytes)) refl
       where
-        look : (v : Verdict) → ask u s (record-for s bytes) ≡ v → P (judged u s (record-for s bytes) page)
-        look Taken q = rw (judged-taken u s (record-for s bytes) page q) (f p q)
-        look (Refused n i) q = rw (judged-refused u s (record-for s bytes) page n i q) (g n i (s .core .number))
+        look : (v : Verdict) → ask u s (record-for s bytes) ≡ v → P (step u s bytes page)
+        look Taken q = rw (step-takes u s bytes page p q) (f p q)
+        look (Refused n i) q = rw (step-refuses u s bytes page p n i q) (g n i (s .core .number))
 
 -- A CALL THAT DOES NOT TAKE ITS RECORD LEAVES STATE AND PAGE AS THEY WERE
 pub record Untouched (s : State) (before : List ℕ) (x : Stepped) : Type 0 where
@@ -139,14 +210,14 @@ taken-at-zero u s bytes page z = enter (first-broken (entry-rules u s bytes page
         look : (v : Verdict) → ask u s (record-for s bytes) ≡ v → Entering u s bytes page
         look Taken q = record { entered = p; asked = q }
         look (Refused n i) q =
-            let w : step u s bytes page ≡ refused n i (s .core .number) s page = rw (step-entered u s bytes page p) (judged-refused u s (record-for s bytes) page n i q) in
+            let w = step-refuses u s bytes page p n i q in
             let h : n ≡ 0 = subst (λ (x : Stepped). x .answer .number ≡ 0) w z in
             let k : _≡_ {A = Verdict} (Refused n i) Taken = zero-taken (rules-of u s (record-for s bytes)) (Refused n i) (rules-numbers u s (record-for s bytes)) q h in
             let e : _≡_ {A = ℕ} 0 1 = cc in
             absurd (omega arith)
 
 pub step-taken : (u : Setup) (s : State) (bytes page : List ℕ) → Entering u s bytes page → step u s bytes page ≡ taken u s (record-for s bytes) page
-step-taken u s bytes page e = rw (step-entered u s bytes page (e .entered)) (judged-taken u s (record-for s bytes) page (e .asked))
+step-taken u s bytes page e = step-takes u s bytes page (e .entered) (e .asked)
 
 -- ── DEMAND 3 by state ──
 
@@ -172,15 +243,15 @@ module _ {t u : SpeedTable} (e : NowhereHarder t u) (fit : table-fits u ≡ true
   entry-softer c h = ⊑-self ▸ ⊑-self ▸ ⊑-self ▸ ⊑-true (table-fits t) fit ▸ ⊑-self ▸ ⊑-fits c h ▸ end
 
   -- what the easier table leaves, by the open row
-  abbrev left-by : Core → Record → List Bank → ℕ → Stepped
-  left-by c r ds row =
+  abbrev easier-left : Core → Record → List Bank → ℕ → Stepped
+  easier-left c r ds row =
       stepped (answer-of 0 0 (c .number) (beat c r row)) (state-of (core-after c r row) (banks-after u c r (beat c r row) ds))
       (stored (core-module c) (c .bank) (c .row) (r .dq) (beat c r row) page)
 
   taken-agree : (c : Core) (r : Record) {bs ds : List Bank} → NearBanks bs ds → Agree (taken (setup t) (state-of c bs) r page) (taken (setup u) (state-of c ds) r page)
   unfolding next
   taken-agree c r {bs} {ds} h =
-      subst (λ (row : ℕ). Agree (taken (setup t) (state-of c bs) r page) (left-by c r ds row)) (near-row (near-at h (r .ba)))
+      subst (λ (row : ℕ). Agree (taken (setup t) (state-of c bs) r page) (easier-left c r ds row)) (near-row (near-at h (r .ba)))
       (record { answer = refl; page = refl; next = near (near-after e c r (own-beat (state-of c bs) r) h) })
 
   -- a record that the harder table takes from a state is taken by the easier one from each state near to it
@@ -199,7 +270,7 @@ module _ {t u : SpeedTable} (e : NowhereHarder t u) (fit : table-fits u ≡ true
 -- ── Admitted stays admitted, by the call ──
 
 pub period-most : (p : Ps) → period-fits p ≡ true → p .0 ≤ 65_535
-period-most p h = leb-true _ _ (both (leb 1_000 (p .0)) (leb (p .0) 65_535) h .1)
+period-most p h = leb-true _ _ (both-true (leb 1_000 (p .0)) (leb (p .0) 65_535) h .1)
 
 entered-of : (u : Setup) (s : State) (bytes page : List ℕ) → first-broken (entry-rules u s bytes page) ≡ Taken → s .core .number < number-max
     → Entered u (s .core) (record-for s bytes)

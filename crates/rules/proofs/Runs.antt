@@ -5,13 +5,16 @@ use mathlib.Core.Path.{_≡_, refl, ap, _∙_}
 use mathlib.Core.List.{List, [], _∷_}
 use lib.ListN.{length, take}
 use Rattle.layout.specs.declared.Record.{Record}
+use Rattle.bursts.specs.declared.Beat.{Beat}
 use Rattle.rules.specs.declared.State.{State}
 use Rattle.rules.specs.declared.Setup.{Setup}
 use Rattle.rules.specs.declared.Verdict.{Verdict}
 use Rattle.rules.specs.declared.Verdict.the-variants.{Taken, Refused}
 use Rattle.rules.specs.Rules.{ask}
-use Rattle.rules.specs.After.{core-from, core-after, next}
-use Rattle.rules.specs.Run.{Run, line, with-line, run}
+use Rattle.page.specs.Store.{stored}
+use Rattle.rules.specs.Parts.{state-module}
+use Rattle.rules.specs.After.{core-from, core-after, own-beat, next}
+use Rattle.rules.specs.Run.{Run, line, with-line, run, page-after, page-left, all-taken, state-left, last-beat}
 
 pub run-taken : (u : Setup) (s : State) (r : Record) (rs : List Record) → ask u s r ≡ Taken
     → run u s (r ∷ rs) ≡ with-line (line s r) (run u (next u s r) rs)
@@ -56,3 +59,34 @@ before-stop u s (r ∷ rs) =
     by-answer (λ a. run u s (take (length (a .lines)) (r ∷ rs)) ≡ record { verdict = Taken; reported = a .reported; lines = a .lines }) u s r rs
     (λ p. run-taken u s r (take (length (run u (next u s r) rs .lines)) rs) p ∙ ap (with-line (line s r)) (before-stop u (next u s r) rs))
     (λ n i p. refl)
+
+-- ── What a run leaves, by its first record's answer ──
+
+-- the page after one record that is taken
+abbrev pub page-next : State → Record → List ℕ → List ℕ
+page-next s r page = stored (state-module s) (s .core .bank) (s .core .row) (r .dq) (own-beat s r) page
+
+module _ (u : Setup) (s : State) (r : Record) (rs : List Record) (v : Run) where
+  pub page-on : (page : List ℕ) → page-left s (r ∷ rs) (with-line (line s r) v) page ≡ page-left (next u s r) rs v (page-next s r page)
+  unfolding next core-after core-from page-after
+  page-on page = refl
+
+  pub state-on : state-left u s (r ∷ rs) (with-line (line s r) v) ≡ state-left u (next u s r) rs v
+  unfolding all-taken
+  state-on = refl
+
+  pub beat-on : (w : Beat) → last-beat w (with-line (line s r) v .lines) ≡ last-beat (own-beat s r) (v .lines)
+  beat-on w = refl
+
+-- none taken, none left
+pub page-same : (s : State) (rs : List Record) (page : List ℕ) (v : Run) → v .lines ≡ [] → page-left s rs v page ≡ page
+unfolding page-after
+page-same s rs page v h = ap (λ ls. page-after (state-module s) (s .core .bank) (s .core .row) rs ls page) h ∙ none rs
+  where
+    none : (rs : List Record) → page-after (state-module s) (s .core .bank) (s .core .row) rs [] page ≡ page
+    none [] = refl
+    none (r ∷ rs) = refl
+
+pub state-same : (u : Setup) (s : State) (rs : List Record) (v : Run) → v .lines ≡ [] → state-left u s rs v ≡ s
+unfolding all-taken
+state-same u s rs v h = ap (λ ls. all-taken u s (take (length ls) rs)) h

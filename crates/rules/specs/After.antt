@@ -14,7 +14,6 @@ use Rattle.layout.specs.Commands.{command, is, covers, precharge-all}
 use Rattle.bursts.specs.declared.Bus.{Bus}
 use Rattle.bursts.specs.declared.Beat.{Beat}
 use Rattle.bursts.specs.Bus.{write-after, reads-after, bus-after, beat-on, stores-in}
-use Rattle.page.specs.Store.{stored}
 use Rattle.rules.specs.declared.Refreshes.{Refreshes}
 use Rattle.rules.specs.declared.Refreshes.the-variants.{None, One, Two}
 use Rattle.rules.specs.declared.Register.the-variants.{Loaded}
@@ -25,8 +24,7 @@ use Rattle.rules.specs.declared.Bank.{Bank}
 use Rattle.rules.specs.declared.Core.{Core}
 use Rattle.rules.specs.declared.State.{State}
 use Rattle.rules.specs.declared.Setup.{Setup}
-use Rattle.rules.specs.declared.Taking.{Taking}
-use Rattle.rules.specs.Parts.{clock-of, now, word, state-module}
+use Rattle.rules.specs.Parts.{clock-of, now, word}
 use Rattle.rules.specs.StartUp.{begun}
 use Rattle.rules.specs.Banks.{bank-at, row-of}
 use Rattle.rules.specs.Closing.{burst-end, closing-time}
@@ -141,11 +139,3 @@ next u s r =
       core = core-after (s .core) r (own-row s r);
       banks = banks-after (u .table) (s .core) r (own-beat s r) (s .banks);
     }
-
--- what taking a record gives: the beat, and the next state
-abbrev pub taking : Setup → State → Record → Taking
-taking u s r = record { beat = own-beat s r; next = next u s r }
-
--- the page of the watched bank and row after it: "the page holds the stores of the records before it"
-abbrev pub page-next : State → Record → List ℕ → List ℕ
-page-next s r page = stored (state-module s) (s .core .bank) (s .core .row) (r .dq) (own-beat s r) page

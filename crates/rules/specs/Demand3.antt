@@ -1,39 +1,21 @@
 -- DEMAND 3 of the call of many records: "A table that is nowhere harder never stops earlier; beats and page agree up to the harder
 -- table's stop". The claim; it is proved in device/proofs/Demand3. Definitions only.
-use Prim.Native.Nat.{ℕ, _*_, _/_, _≤_}
+use Prim.Native.Nat.{ℕ, _*_, _≤_}
 use mathlib.Core.Path.{_≡_}
-use mathlib.Core.Bool.{true, cond}
+use mathlib.Core.Bool.{true}
 use mathlib.Core.List.{List}
-use lib.Dec.{leb}
 use lib.ListN.{length, take}
 use Rattle.speed.specs.declared.SpeedTable.{SpeedTable}
 use Rattle.speed.specs.Table.{table-fits}
-use Rattle.layout.specs.declared.Record.{Record}
-use Rattle.layout.specs.Bytes.{records-of}
 use Rattle.rules.specs.declared.State.{State}
 use Rattle.rules.specs.declared.Setup.{Setup}
-use Rattle.rules.specs.declared.Verdict.the-variants.{Taken, Refused}
-use Rattle.rules.specs.Numbers.{first-broken}
-use Rattle.rules.specs.Parts.{state-module}
-use Rattle.rules.specs.Run.{run}
-use Rattle.rules.specs.Report.{records-rules, room, records-call}
+use Rattle.rules.specs.declared.Verdict.the-variants.{Taken}
+use Rattle.rules.specs.Report.{call-run, records-call}
 use Rattle.rules.specs.Harder.{NowhereHarder}
 
--- so many of these records, those before one whose number is above 2^41
-abbrev pub within-room : State → ℕ → ℕ
-within-room s count = cond (leb count (room s)) count (room s)
-
--- the records of these bytes that the call may take
-abbrev pub records-in : State → List ℕ → List Record
-records-in s bytes = records-of (state-module s) (within-room s (length bytes / 16)) bytes
-
--- how many it takes, with a page of so many bytes; none where it looks at no record
+-- how many records a call takes, with a page of so many bytes; none where it looks at no record
 abbrev pub taken-in : Setup → State → List ℕ → ℕ → ℕ
-taken-in u s bytes lent =
-    elim (first-broken (records-rules u s (length bytes) lent)) [
-      | Taken ↦ length (run u s (records-in s bytes) .lines)
-      | Refused n i ↦ 0
-    ]
+taken-in u s bytes lent = length (call-run u s bytes lent .lines)
 
 -- the records of these bytes up to the stop of the call with u
 abbrev pub up-to-stop : Setup → State → List ℕ → List ℕ → List ℕ

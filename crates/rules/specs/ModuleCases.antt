@@ -30,8 +30,8 @@ use Rattle.rules.specs.After.{
   banks-after,
   next,
 }
-use Rattle.rules.specs.Run.{run}
-use Rattle.rules.specs.Report.{fold}
+use Rattle.rules.specs.Run.{run, page-after}
+use Rattle.rules.specs.Report.{lines-into, fold}
 use Rattle.rules.specs.Cases.{write, up, up-active, Outcome, runs-from, with-133}
 
 -- before the first record of a trace of this grade, which watches row 7 of bank 1
@@ -61,5 +61,5 @@ pub module-right :
     (found full-pages ≡ expected full-pages)
     × (page-by 2 ≡ (replicate 24 255 ++ replicate 8 0 ++ replicate 8 255))
     × (page-by 3 ≡ (replicate 6 255 ++ replicate 2 0 ++ replicate 32 255))
-unfolding put-lanes stored fold module-of length-of beat-column has-beat write-beat read-beat finished masks-on masks-after reads-from bus-after beat-on bursts-finished driven bus-clear allowed banks-found of-closing of-any of-active of-access of-precharged of-precharge of-idle events minima every-rules place-rules minimum-rules mode-rules bus-rules command-rules rules ask startup-after beat core-from core-after bank-after commanded mark-banks banks-after next run
+unfolding put-lanes stored page-after lines-into fold module-of length-of beat-column has-beat write-beat read-beat finished masks-on masks-after reads-from bus-after beat-on bursts-finished driven bus-clear allowed banks-found of-closing of-any of-active of-access of-precharged of-precharge of-idle events minima every-rules place-rules minimum-rules mode-rules bus-rules command-rules rules ask startup-after beat core-from core-after bank-after commanded mark-banks banks-after next run
 module-right = (refl, refl, refl)

@@ -52,7 +52,6 @@ use Rattle.rules.specs.declared.Status.{Status}
 use Rattle.rules.specs.declared.Status.the-variants.{NotStarted, Open, Closed}
 use Rattle.rules.specs.declared.Bank.{Bank}
 use Rattle.rules.specs.declared.State.{State}
-use Rattle.rules.specs.declared.Taking.{Taking}
 use Rattle.rules.specs.Numbers.{tWR}
 use Rattle.rules.specs.Parts.{no-bank, start, clock-of, word}
 use Rattle.rules.specs.StartUp.{allowed}
@@ -70,10 +69,10 @@ use Rattle.rules.specs.After.{
   mark-banks,
   banks-after,
   next,
-  taking,
   auto-closed,
 }
-use Rattle.rules.specs.OneRecord.{Stepped, judged}
+use Rattle.rules.specs.Run.{Line, run, page-after, all-taken, last-beat}
+use Rattle.rules.specs.OneRecord.{found-of, Took, took, left-by, take-record, Stepped, both}
 use Rattle.rules.specs.Cases.{up, with-133}
 use Rattle.rules.specs.StateCases.{not-begun, over, state, bank}
 use Rattle.rules.specs.MinimaCases.{ready}
@@ -171,13 +170,17 @@ abbrev left : ℕ → ℕ → ℕ → Beat → State → List ℕ → Stepped
 left number interval reported b s p =
     record { answer = record { number = number; interval = interval; reported = reported; beat = b }; next = s; page = p }
 
+-- the record asked, then taken
+abbrev judged : State → Record → Stepped
+judged s r = both (found-of (ask with-133 s r) (s .core .number)) (take-record with-133 s r page)
+
 -- taken: beat, next state and page
 abbrev takes : State → Record → Beat → State → List ℕ → Row Stepped
-takes s r b s′ p = judged with-133 s r page gives left 0 0 (s .core .number) b s′ p
+takes s r b s′ p = judged s r gives left 0 0 (s .core .number) b s′ p
 
 -- refused with this number: no beat, and state and page as they were
 abbrev refuses : State → Record → ℕ → ℕ → Row Stepped
-refuses s r number interval = judged with-133 s r page gives left number interval (s .core .number) Quiet s page
+refuses s r number interval = judged s r gives left number interval (s .core .number) Quiet s page
 
 -- ── Each command ──
 
@@ -318,11 +321,6 @@ numbers =
     ∷ word (start (time 7500) 2 0 0 .core) gives 0x30
     ∷ []
 
--- the state after these records
-abbrev after : State → List Record → State
-after s [] = s
-after s (r ∷ rs) = after (next with-133 s r) rs
-
 abbrev states : List (Row State)
 states =
     -- before the first record
@@ -330,8 +328,8 @@ states =
     gives state 7500 3 8191 0 Never not-begun (bus no-burst no-reads (masks 255 255 255))
     (no-bank ∷ no-bank ∷ no-bank ∷ no-bank ∷ [])
     -- after start-up: the state that the rows of `MinimaCases` begin from
-    ∷ after (start (time 7500) 2 0 0) (up 0x30 []) gives ready 0x30
-    ∷ after (start (time 7500) 2 0 0) (up 0x232 []) gives ready 0x232
+    ∷ all-taken with-133 (start (time 7500) 2 0 0) (up 0x30 []) gives ready 0x30
+    ∷ all-taken with-133 (start (time 7500) 2 0 0) (up 0x232 []) gives ready 0x232
     ∷ []
 
 abbrev banks : List (Row Bank)
@@ -362,15 +360,33 @@ statuses =
     ∷ auto-closed grade-133 (time 7500) (time 50_000) (Open 7 (clock 1)) gives Closed (time 51_500)
     ∷ []
 
--- what taking gives: the beat beside the next state
-abbrev takings : List (Row Taking)
+-- what these records leave of a state in which a WRITE runs on
+abbrev left-of : List Record → Took
+left-of rs = left-by with-133 (running Never) rs page (run with-133 (running Never) rs)
+
+abbrev takings : List (Row Took)
 takings =
-    taking with-133 (running Never) (rec Nop 0 0 0)
-    gives record {
-      beat = Stores (record { bank = 1; row = 7; column = 3; lanes = 255 });
-      next = ran (masks 0 1 2) Never
-          b-stored;
-    }
+    -- "the refused record changes neither state nor page, and nothing after it is read": the one before it does
+    left-of (rec Nop 0 0 0 ∷ rec Active 1 0 0 ∷ rec Nop 0 0 0 ∷ [])
+    gives took (Stores (record { bank = 1; row = 7; column = 3; lanes = 255 })) (ran (masks 0 1 2) Never b-stored)
+    (replicate 24 255 ++ (1 ∷ 2 ∷ 3 ∷ 4 ∷ 5 ∷ 6 ∷ 7 ∷ 8 ∷ []) ++ replicate 8 255)
+    ∷ left-of (rec Active 1 0 0 ∷ rec Nop 0 0 0 ∷ []) gives took Quiet (running Never) page
+    ∷ left-of [] gives took Quiet (running Never) page
+    ∷ []
+
+abbrev line-with : Beat → Line
+line-with b = record { clock = clock 3; beat = b }
+
+abbrev stores-0 : Beat
+stores-0 = Stores (record { bank = 0; row = 0; column = 0; lanes = 1 })
+
+-- the beat of the last record taken
+abbrev beats : List (Row Beat)
+beats =
+    last-beat stores-0 [] gives stores-0
+    ∷ last-beat Quiet (line-with stores-0 ∷ []) gives stores-0
+    ∷ last-beat Quiet (line-with Quiet ∷ line-with stores-0 ∷ []) gives stores-0
+    ∷ last-beat Quiet (line-with stores-0 ∷ line-with Quiet ∷ []) gives Quiet
     ∷ []
 
 pub next-right :
@@ -379,7 +395,8 @@ pub next-right :
     × (found states ≡ expected states)
     × (found banks ≡ expected banks)
     × (found takings ≡ expected takings)
+    × (found beats ≡ expected beats)
     × (found late ≡ expected late)
     × (found statuses ≡ expected statuses)
-unfolding module-of length-of beat-column has-beat write-beat read-beat finished masks-on masks-after reads-from bus-after beat-on bursts-finished driven bus-clear allowed banks-found of-closing of-any of-active of-access of-precharged of-precharge of-idle events minima every-rules place-rules minimum-rules mode-rules bus-rules command-rules rules ask startup-after beat core-from core-after bank-after commanded mark-banks banks-after next put-lanes stored judged
-next-right = (refl, refl, refl, refl, refl, refl, refl)
+unfolding module-of length-of beat-column has-beat write-beat read-beat finished masks-on masks-after reads-from bus-after beat-on bursts-finished driven bus-clear allowed banks-found of-closing of-any of-active of-access of-precharged of-precharge of-idle events minima every-rules place-rules minimum-rules mode-rules bus-rules command-rules rules ask startup-after beat core-from core-after bank-after commanded mark-banks banks-after next put-lanes stored run page-after all-taken
+next-right = (refl, refl, refl, refl, refl, refl, refl, refl)

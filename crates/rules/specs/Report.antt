@@ -16,10 +16,8 @@ use Rattle.rules.specs.declared.Verdict.the-variants.{Taken, Refused}
 use Rattle.rules.specs.declared.Ran.{Ran}
 use Rattle.rules.specs.Parts.{state-module}
 use Rattle.rules.specs.Numbers.{Rule, rule, first-broken}
-use Rattle.rules.specs.Rules.{ask}
-use Rattle.rules.specs.After.{next, page-next}
 use Rattle.rules.specs.Fits.{number-max}
-use Rattle.rules.specs.Run.{Line, line}
+use Rattle.rules.specs.Run.{Line, Run, run, page-left, state-left}
 use Rattle.rules.specs.OneRecord.{state-rules}
 
 -- bits 0 to 7 the lanes, 8 to 23 the column, 24 to 39 the row, 40 to 47 the bank, 48 to 55 the kind: 1 read, 2 write
@@ -52,15 +50,11 @@ left ran page beats = record { ran = ran; page = page; beats = beats }
 abbrev pub ran : Verdict → ℕ → Ran
 ran v k = record { verdict = v; reported = k }
 
--- each record asked and taken in turn, up to the first that is refused
+-- what a run of these records leaves, with page and beats lent
 unfoldable pub fold : Setup → State → List Record → List ℕ → List ℕ → Left
-fold u s [] page beats = left (ran Taken (s .core .number)) page beats
-fold u s (r ∷ rs) page beats =
-    elim (ask u s r) [
-      | Taken ↦
-          fold u (next u s r) rs (page-next s r page) (put-line (s .core .number) (line s r) beats)
-      | Refused n i ↦ left (ran (Refused n i) (s .core .number)) page beats
-    ]
+fold u s rs page beats =
+    let v = run u s rs in
+    left (ran (v .verdict) (v .reported)) (page-left s rs v page) (lines-into (s .core .number) (v .lines) beats)
 
 -- what is tried before the first of the records: 1, where the bytes are no whole records; 3, 4, 6, 7 and 25
 unfoldable pub records-rules : Setup → State → ℕ → ℕ → List Rule
@@ -77,12 +71,35 @@ above-number-max r = elim (r .verdict) [ Taken ↦ ran (Refused 25 0) 0 | Refuse
 abbrev pub past-room : Left → Left
 past-room l = left (above-number-max (l .ran)) (l .page) (l .beats)
 
--- the call that judges the records of a lent slice from a state, each as the one-record call would
-unfoldable pub records-call : Setup → State → List ℕ → List ℕ → List ℕ → Left
-records-call u s bytes page beats =
-    elim (first-broken (records-rules u s (length bytes) (length page))) [
+-- so many of these records, those before one whose number is above 2^41
+abbrev pub within-room : State → ℕ → ℕ
+within-room s count = cond (leb count (room s)) count (room s)
+
+-- the records of these bytes that a call may take
+abbrev pub records-in : State → List ℕ → List Record
+records-in s bytes = records-of (state-module s) (within-room s (length bytes / 16)) bytes
+
+-- the call that judges the records of a lent slice from a state, each as the one-record call would; number 7 is asked of `lent`
+unfoldable pub records-lent : Setup → State → List ℕ → ℕ → List ℕ → List ℕ → Left
+records-lent u s bytes lent page beats =
+    elim (first-broken (records-rules u s (length bytes) lent)) [
       | Taken ↦
           cond (leb (length bytes / 16) (room s)) (fold u s (records-of (state-module s) (length bytes / 16) bytes) page beats)
           (past-room (fold u s (records-of (state-module s) (room s) bytes) page beats))
       | Refused n i ↦ left (ran (Refused n i) 0) page beats
     ]
+
+abbrev pub records-call : Setup → State → List ℕ → List ℕ → List ℕ → Left
+records-call u s bytes page beats = records-lent u s bytes (length page) page beats
+
+-- the run behind the call: none where it looks at no record
+unfoldable pub call-run : Setup → State → List ℕ → ℕ → Run
+call-run u s bytes lent =
+    elim (first-broken (records-rules u s (length bytes) lent)) [
+      | Taken ↦ run u s (records-in s bytes)
+      | Refused n i ↦ record { verdict = Refused n i; reported = 0; lines = [] }
+    ]
+
+-- the state that the call leaves
+abbrev pub records-next : Setup → State → List ℕ → ℕ → State
+records-next u s bytes lent = state-left u s (records-in s bytes) (call-run u s bytes lent)

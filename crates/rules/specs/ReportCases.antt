@@ -59,10 +59,10 @@ use Rattle.rules.specs.After.{
   banks-after,
   next,
 }
-use Rattle.rules.specs.Run.{Line, page-after}
+use Rattle.rules.specs.Run.{Line, run, page-after}
 use Rattle.rules.specs.Fits.{bank-fits, burst-fits, core-fits, fits}
 use Rattle.rules.specs.OneRecord.{state-rules}
-use Rattle.rules.specs.Report.{Left, beat-word, put-line, lines-into, fold, records-rules, records-call}
+use Rattle.rules.specs.Report.{Left, beat-word, put-line, lines-into, fold, records-rules, records-lent, records-call}
 use Rattle.rules.specs.Cases.{active, with-133}
 use Rattle.rules.specs.StateCases.{over, state, of-grade, bank}
 
@@ -282,5 +282,5 @@ pub report-right :
     × (found pages ≡ expected pages)
     × (found folds ≡ expected folds)
     × (found many ≡ expected many)
-unfolding module-of column-on has-pins lane-masks table-fits record-from records-of length-of beat-column has-beat write-beat read-beat finished masks-on masks-after reads-from bus-after beat-on bursts-finished driven bus-clear put-lanes stored allowed banks-found of-closing of-any of-active of-access of-precharged of-precharge of-idle events minima every-rules place-rules minimum-rules mode-rules bus-rules command-rules rules ask startup-after beat core-from core-after bank-after commanded mark-banks banks-after next page-after bank-fits burst-fits core-fits fits state-rules beat-word put-line lines-into fold records-rules records-call
+unfolding module-of column-on has-pins lane-masks table-fits record-from records-of length-of beat-column has-beat write-beat read-beat finished masks-on masks-after reads-from bus-after beat-on bursts-finished driven bus-clear put-lanes stored allowed banks-found of-closing of-any of-active of-access of-precharged of-precharge of-idle events minima every-rules place-rules minimum-rules mode-rules bus-rules command-rules rules ask startup-after beat core-from core-after bank-after commanded mark-banks banks-after next page-after bank-fits burst-fits core-fits fits state-rules beat-word put-line lines-into run fold records-rules records-lent
 report-right = (refl, refl, refl, refl, refl)

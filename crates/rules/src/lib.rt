@@ -79,12 +79,6 @@ pub enum Verdict {
     Refused { number: u8, interval: u8 },
 }
 
-// What taking a record gives: the beat on its clock, and the next state.
-pub struct Taking {
-    pub beat: Beat,
-    pub next: State,
-}
-
 // What judging many records gives: the verdict, and the record that it reports.
 pub struct Ran {
     pub verdict: Verdict,

@@ -12,12 +12,10 @@ use Rattle.layout.specs.declared.Record.{Record}
 use Rattle.layout.specs.declared.Command.{Command}
 use Rattle.layout.specs.declared.Command.the-variants.{Active, Precharge}
 use Rattle.layout.specs.Commands.{is, covers}
-use Rattle.bursts.specs.declared.Beat.{Beat}
-use Rattle.bursts.specs.Bus.{stores-in}
 use Rattle.rules.specs.declared.Bank.{Bank}
 use Rattle.rules.specs.Banks.{bank-at}
 use Rattle.rules.specs.Rules.{asks-auto}
-use Rattle.rules.specs.After.{with-status, precharged, auto-closed, activated, bank-after, marked, each-bank, commanded, mark-banks}
+use Rattle.rules.specs.After.{with-status, precharged, auto-closed, activated, bank-after, each-bank, commanded}
 use Rattle.rules.proofs.Four.{four}
 
 pub each-four : (f : ℕ → Bank → Bank) (l : List Bank) → length l ≡ 4
@@ -52,13 +50,3 @@ module _ (k : Command) (t : SpeedTable) (period end : Ps) (again : Bool) (r : Re
       go true y z h i b = cc
       go false true z h i b = cc
       go false false true h i b = cc
-
-pub mark-four : (w : Beat) (n : Clock) (l : List Bank) → length l ≡ 4
-    → mark-banks w n l
-    ≡ (marked (stores-in w 0) n (bank-at l 0)
-    ∷ marked (stores-in w 1) n (bank-at l 1)
-    ∷ marked (stores-in w 2) n (bank-at l 2)
-    ∷ marked (stores-in w 3) n (bank-at l 3)
-    ∷ [])
-unfolding mark-banks
-mark-four w n l h = each-four (λ i b. marked (stores-in w i) n b) l h

@@ -17,7 +17,7 @@ ghost use Rattle.rules.specs.Closing.{burst-end};
 ghost use Rattle.rules.specs.Rules.{clock-max};
 ghost use Rattle.bursts.specs.Bus.{bus-after};
 ghost use Rattle.taking.specs.Marks.{stores-byte, bank-of};
-ghost use Rattle.rules.specs.After.{one-more, startup-after, with-status, precharged, auto-closed, activated, bank-after, marked, commanded, mark-banks};
+ghost use Rattle.rules.specs.After.{one-more, startup-after, with-status, precharged, auto-closed, activated, bank-after, commanded};
 use bursts::Beat;
 use bursts::Bus;
 use bursts::databus;
@@ -146,20 +146,6 @@ pub fn activated(row: u16, n: Clock) -> Bank
     }
 }
 
-pub fn marked(x: bool, n: Clock, b: Bank) -> Bank
-    ensures { λ r. ⌜ r ≡ marked x n b ⌝ }
-{
-    let status = b.status;
-    let active = b.active;
-    let old = b.stored;
-    let stored = event_if(x, n, old);
-    Bank {
-        status,
-        active,
-        stored,
-    }
-}
-
 // Bank i after the command.
 fn bank_after(
     k: Command,
@@ -223,17 +209,6 @@ fn commanded(
         return [a, b, c, d];
     }
     all
-}
-
-// A byte was stored on clock n, where the beat stores one.
-pub fn mark_banks(w: Beat, n: Clock, all: [Bank; 4]) -> [Bank; 4]
-    ensures { λ x. ⌜ x ≡ mark-banks w n all ⌝ }
-{
-    let a = marked(w.stores_in(0), n, all[0]);
-    let b = marked(w.stores_in(1), n, all[1]);
-    let c = marked(w.stores_in(2), n, all[2]);
-    let d = marked(w.stores_in(3), n, all[3]);
-    [a, b, c, d]
 }
 
 // The bus after the command, with the mode word and the open row that it finds.

@@ -44,8 +44,8 @@ enum-told-3 c = search needs
 returns-2 : tie.Need-returns-2
 returns-2 c = rw (c .enum-told3 .given .1) (sym (call-refused (c .before .before .before .before .before .before .before .before .before .before .args .u) (c .before .before .before .before .before .before .before .before .before .before .args .trace .now) (c .before .before .before .before .before .before .before .before .before .before .args .page .now) (c .before .before .before .before .before .before .before .before .before .before .args .beats .now) _ _ (entry-read (c .before .before .before .before .before .before .before .before .before .before .args .u) (c .before .before .before .before .before .before .before .before .before .before .args .trace .now) (c .before .before .before .before .before .before .before .before .before .before .args .page .now) _ _ (headed _ _ (sym (c .before .before .before .before .before .before .read-header .ensures) ∙ c .before .before .before .before .h .given .1)) (sym (c .before .before .whole-verdict .ensures) ∙ c .enum-told3 .given .1))))
 
-cast-t12 : tie.Need-cast-t12
-cast-t12 c = search needs
+cast-t13 : tie.Need-cast-t13
+cast-t13 c = search needs
 
 start-requires : tie.Need-start-requires
 start-requires c κs = search needs
@@ -69,7 +69,7 @@ same-length-2 : tie.Need-same-length-2
 same-length-2 c = search needs
 
 returns-3 : tie.Need-returns-3
-returns-3 c = let w = headed _ _ (sym (c .before .before .before .before .before .before .before .before .before .before .before .before .before .before .before .before .read-header .ensures) ∙ c .before .before .before .before .before .before .before .before .before .before .before .before .before .before .h .given .1) in c .before .before .before .before .records .ensures ∙ rw (past-header, c .before .before .before .before .before .before .before .before .start .ensures, w .read) (call-records (c .before .before .before .before .before .before .before .before .before .before .before .before .before .before .before .before .before .before .before .before .args .u) (c .before .before .before .before .before .before .before .before .before .before .before .before .before .before .before .before .before .before .before .before .args .trace .now) (c .before .before .before .before .before .before .before .before .before .before .before .before .before .before .before .before .before .before .before .before .args .page .now) (c .before .before .before .before .before .before .before .before .before .before .before .before .before .before .before .before .before .before .before .before .args .beats .now) (entry-read (c .before .before .before .before .before .before .before .before .before .before .before .before .before .before .before .before .before .before .before .before .args .u) (c .before .before .before .before .before .before .before .before .before .before .before .before .before .before .before .before .before .before .before .before .args .trace .now) (c .before .before .before .before .before .before .before .before .before .before .before .before .before .before .before .before .before .before .before .before .args .page .now) _ _ w (sym (c .before .before .before .before .before .before .before .before .before .before .before .before .whole-verdict .ensures) ∙ c .before .before .before .before .before .before .before .before .before .before .enum-told2 .given .1)))
+returns-3 c = let w = headed _ _ (sym (c .before .before .before .before .before .before .before .before .before .before .before .before .before .before .before .before .before .read-header .ensures) ∙ c .before .before .before .before .before .before .before .before .before .before .before .before .before .before .before .h .given .1) in c .before .before .before .before .before .records .ensures .0 ∙ rw (past-header, c .before .before .before .before .before .before .before .before .before .start .ensures, w .read) (call-records (c .before .before .before .before .before .before .before .before .before .before .before .before .before .before .before .before .before .before .before .before .before .args .u) (c .before .before .before .before .before .before .before .before .before .before .before .before .before .before .before .before .before .before .before .before .before .args .trace .now) (c .before .before .before .before .before .before .before .before .before .before .before .before .before .before .before .before .before .before .before .before .before .args .page .now) (c .before .before .before .before .before .before .before .before .before .before .before .before .before .before .before .before .before .before .before .before .before .args .beats .now) (entry-read (c .before .before .before .before .before .before .before .before .before .before .before .before .before .before .before .before .before .before .before .before .before .args .u) (c .before .before .before .before .before .before .before .before .before .before .before .before .before .before .before .before .before .before .before .before .before .args .trace .now) (c .before .before .before .before .before .before .before .before .before .before .before .before .before .before .before .before .before .before .before .before .before .args .page .now) _ _ w (sym (c .before .before .before .before .before .before .before .before .before .before .before .before .before .whole-verdict .ensures) ∙ c .before .before .before .before .before .before .before .before .before .before .before .enum-told2 .given .1)))
 
 pub judge-spec : {M : Type 1} → statement M
 judge-spec =
@@ -84,7 +84,7 @@ judge-spec =
     enum-told-2
     enum-told-3
     returns-2
-    cast-t12
+    cast-t13
     start-requires
     sub-records
     part-records-start
