@@ -27,7 +27,7 @@ HOME = os.path.join(ROOT, "target", "mutate")
 RESULTS = os.path.join(HOME, "results-facts.json")
 SECONDS = 600
 # Their definitions are for the code behind the public calls. Each is proved equal to the rules by a law or a contract.
-BRIDGES = ("parts", "asking", "taking", "packed", "device", "explain", "bench")
+BRIDGES = ("asking", "taking", "packed", "device", "explain", "bench")
 # No definitions of answers: a fact for a theorem, which needs the code's own laws; and what tables share.
 OUTSIDE = ("hawsehole/Walk", "rules/Demand3", "units/Facts", "hawsehole/Traces")
 TABLE = re.compile(r"(Cases|Printed)$")

@@ -1,6 +1,6 @@
 /* What the header alone promises: its readers take a word apart as design and
- * document 01 lay it out, and its tables are 01's. Compiled as C and as C++, and
- * run without the library. */
+ * document 01 lay it out, its tables are 01's, and its sizes are right. Compiled as C
+ * and as C++, and run without the library. */
 #include "../include/hawsehole.h"
 
 #include <stdio.h>
@@ -57,10 +57,34 @@ static void hold_tables(void)
             hold("a number of a grade's table", grade[g][i], row[i][g]);
 }
 
+/* The sizes, and that a caller's arguments fit the calls: each is looked at, and none
+ * is made. */
+static void hold_calls(void)
+{
+    uint64_t state[HAWSEHOLE_STATE_WORDS], beat[HAWSEHOLE_BEAT_WORDS];
+    uint8_t page[HAWSEHOLE_PAGE_BYTES];
+    const uint8_t record[16] = {0};
+    (void)state, (void)beat, (void)page, (void)record;
+    hold("API", HAWSEHOLE_API, 1);
+    hold("bytes of a state", sizeof state, 94 * 8);
+    hold("bytes of a page", sizeof page, 8 * 2048);
+    hold("a start's answer", sizeof hawsehole_start(state, HAWSEHOLE_STATE_WORDS, 7500, 2, 1, 7),
+         8);
+    hold("asking's answer",
+         sizeof hawsehole_ask(state, HAWSEHOLE_STATE_WORDS, record, sizeof record, page,
+                              sizeof page, HAWSEHOLE_GRADE_133),
+         8);
+    hold("taking's answer",
+         sizeof hawsehole_take(state, HAWSEHOLE_STATE_WORDS, record, sizeof record, page,
+                               sizeof page, beat, HAWSEHOLE_BEAT_WORDS, HAWSEHOLE_GRADE_13E),
+         8);
+}
+
 int main(void)
 {
     hold_answer();
     hold_beat();
     hold_tables();
+    hold_calls();
     return failed;
 }

@@ -1,22 +1,22 @@
 // What every record is asked, whatever its command.
 ghost use mathlib.Core.Path.{_≡_};
 ghost use Rattle.rules.specs.Numbers.{first-broken};
-ghost use Rattle.parts.specs.Reach.{FitPeriod};
+ghost use Rattle.units.specs.Reach.{FitPeriod};
 ghost use Rattle.rules.specs.Admitted.{FitEvent, FitStatus};
 ghost use Rattle.rules.specs.StartUp.{last-refresh};
 ghost use Rattle.rules.specs.Banks.{open-within};
 ghost use Rattle.asking.specs.Moment.{moment-rules};
 use crate::maxima;
 use layout::Record;
-use parts::steps;
-use parts::time;
 use rules::CLOCK_MAX;
 use rules::Refreshes;
 use rules::Status;
 use rules::Verdict;
+use rules::steps;
 use speed::SpeedTable;
 use units::Clock;
 use units::Ps;
+use units::time;
 
 // 10, 23, 11 and 12, which look at no bank.
 pub fn ask_moment(

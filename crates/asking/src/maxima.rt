@@ -1,16 +1,16 @@
 // What may not last too long: numbers 12 and 22.
 ghost use mathlib.Core.Path.{_≡_};
 ghost use Rattle.speed.specs.Bounds.{Bounds};
-ghost use Rattle.parts.specs.Reach.{FitPeriod};
+ghost use Rattle.units.specs.Reach.{FitPeriod};
 ghost use Rattle.rules.specs.Admitted.{FitEvent, FitStatus};
 ghost use Rattle.rules.specs.Closing.{closes-within};
 ghost use Rattle.rules.specs.Rules.{within};
-use parts::closing;
-use parts::time;
 use rules::Status;
+use rules::closing;
 use speed::SpeedTable;
 use units::Event;
 use units::Ps;
+use units::time;
 
 // A maximum since an event is not passed; "no maximum is passed" where the event is ahead.
 pub fn within(period: Ps, max: Ps, now: Ps, event: Event) -> bool

@@ -1,7 +1,8 @@
 // Number 16 as eight tests.
 ghost use mathlib.Core.Path.{_≡_};
 ghost use Rattle.speed.specs.Bounds.{Bounds};
-ghost use Rattle.parts.specs.Reach.{FitPeriod, BanksFit};
+ghost use Rattle.units.specs.Reach.{FitPeriod};
+ghost use Rattle.rules.specs.Calls.{BanksFit};
 ghost use Rattle.rules.specs.Admitted.{FitStartUp, FitBank};
 ghost use Rattle.rules.specs.Banks.{bank-at};
 ghost use Rattle.rules.specs.Minima.{only, of-any, of-active, of-access, of-precharged, of-covered, of-precharge, of-idle};
@@ -9,13 +10,13 @@ ghost use Rattle.asking.specs.Shorts.{FitSpan, shorts, no-shorts, either
 use crate::Shorts;
 use crate::since;
 use layout::Record;
-use parts::steps;
-use parts::time;
 use rules::Bank;
 use rules::StartUp;
 use rules::Verdict;
+use rules::steps;
 use speed::SpeedTable;
 use units::Ps;
+use units::time;
 
 // All minima are met.
 pub fn no_shorts() -> Shorts

@@ -1,13 +1,13 @@
 // A minimum since a clock, an event, the ACTIVE of an open bank, its last store, a closing.
 ghost use mathlib.Core.Path.{_≡_};
-ghost use Rattle.parts.specs.Reach.{Reach, FitPeriod};
+ghost use Rattle.units.specs.Reach.{Reach, FitPeriod};
 ghost use Rattle.rules.specs.Admitted.{FitEvent, FitStatus};
 ghost use Rattle.asking.specs.Shorts.{FitSpan, short-on, short-since, short-after, short-opened, short-stored, short-closed};
-use parts::time;
 use rules::Status;
 use units::Clock;
 use units::Event;
 use units::Ps;
+use units::time;
 
 // A minimum since clock n is not met. By the sum, as document 01 says it: the table's bounds keep it below 64 bits.
 pub fn short_on(period: Ps, n: Clock, min: Ps, now: Ps) -> bool

@@ -35,7 +35,7 @@ module _ (u : Setup) (s : State) (r : Record) (rs : List Record) (page beats : L
   unfolding fold page-after lines-into
   fold-refused n i p = ap (from-run s (r ∷ rs) page beats) (run-refused u s r rs n i p)
 
--- ── With the state and the last beat ──
+  -- ── With the state and the last beat ──
 
   module _ (w : Beat) where
     pub went-taken : ask u s r ≡ Taken

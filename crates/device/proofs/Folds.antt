@@ -24,7 +24,7 @@ use Rattle.rules.specs.Numbers.{first-broken}
 use Rattle.rules.specs.Parts.{clock-of, core-module, state-module}
 use Rattle.rules.specs.Rules.{rules, found, ask}
 use Rattle.rules.specs.After.{core-from, core-after, next}
-use Rattle.parts.specs.Reach.{Able, Call}
+use Rattle.rules.specs.Calls.{Able, Call}
 use Rattle.rules.specs.Report.{put-line}
 use Rattle.rules.proofs.Admitted.{bank-fits-at}
 use Rattle.rules.proofs.Runs.{next-number}

@@ -3,5 +3,7 @@ pub mod Ahead
 pub mod FoldRun
 pub mod Starts
 pub mod Folds
+pub mod Ready
+pub mod Joined
 pub mod OneRecord
 pub mod Demand3

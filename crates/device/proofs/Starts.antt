@@ -24,7 +24,7 @@ use Rattle.rules.specs.Parts.{state-module}
 use Rattle.rules.specs.Numbers.{first-broken}
 use Rattle.rules.specs.Fits.{number-max}
 use Rattle.rules.specs.OneRecord.{state-rules}
-use Rattle.parts.specs.Reach.{Able}
+use Rattle.rules.specs.Calls.{Able}
 use Rattle.rules.specs.Run.{Run, run, state-left, beat-left}
 use Rattle.rules.specs.Report.{
   Left,
@@ -231,7 +231,6 @@ module _ (u : Setup) (s : State) (bytes : List ℕ) (lent : ℕ) where
 
           pub all-left : length bytes / 16 ≤ n → left (ran (w .verdict) (w .reported)) page′ beats′ ≡ records-lent u s bytes lent page beats
           all-left h = as-fold ∙ all-judged h
-
 
           pub next-left : w .next ≡ records-next u s bytes lent
           unfolding went-by

@@ -1,13 +1,16 @@
 // The engine: records of a lent slice, each asked and then taken, up to the first that is refused. Every call of the device is
 // this: the one-record calls are the engine on one record.
 ghost use mathlib.Core.Path.{_≡_};
-ghost use Prim.Native.Nat.{_≤_, _*_};
+ghost use Prim.Native.Nat.{suc, _≤_, _*_, _-_};
+ghost use mathlib.Core.Bool.{cond};
+ghost use lib.Dec.{leb};
 ghost use lib.ListN.{length, drop};
 ghost use Rattle.layout.specs.Bytes.{records-of};
 ghost use Rattle.rules.specs.Parts.{core-module};
-ghost use Rattle.parts.specs.Reach.{Able};
+ghost use Rattle.rules.specs.Calls.{Able};
 ghost use Rattle.rules.specs.Run.{beat-left};
-ghost use Rattle.rules.specs.Report.{left, ran, records-lent, call-run, records-next};
+ghost use Rattle.rules.specs.Fits.{number-max};
+ghost use Rattle.rules.specs.Report.{put-line, left, ran, records-lent, call-run, records-next};
 ghost use Rattle.packed.specs.Packed.{banks-in};
 ghost use Rattle.bursts.specs.declared.Beat.the-variants as Beat;
 ghost use Rattle.device.specs.InPlace.{words-ahead, whole, core-of};
@@ -21,14 +24,16 @@ use bursts::Bus;
 use bursts::databus;
 use bursts::reads;
 use packed::inplace;
-use parts::time;
 use rules::Bank;
 use rules::Core;
+use rules::NUMBER_MAX;
 use rules::Setup;
 use rules::StartUp;
 use rules::State;
 use rules::Verdict;
+use rules::clocks;
 use taking::leaving;
+use units::Clock;
 use units::Event;
 use units::Module;
 
@@ -70,6 +75,18 @@ fn core_of(c: Core, number: u64, last: Event, startup: StartUp, bus: Bus) -> Cor
         last,
         startup,
         bus,
+    }
+}
+
+// Record k's beat and clock. Where the beat has no place, the clock has none.
+fn report(beats: &mut [u64], k: u64, beat: Beat, n: Clock)
+    requires { ⌜ k ≤ number-max ⌝ }
+    ensures { λ _. ⌜ now (beats .exit) ≡ put-line k (record { clock = n; beat = beat }) (now (beats .entry)) ⌝ }
+{
+    let at = 2 * (k as usize);
+    if at < beats.len() {
+        beats[at] = reporting::beat_word(beat);
+        reporting::put(beats, at + 1, n.0);
     }
 }
 
@@ -115,7 +132,7 @@ fn fold(
     let mut j = 0;
     while j < count {
         let r = layout::record_from(m, words.first, words.second);
-        let n = time::clock_of(last, r.skipped);
+        let n = clocks::clock_of(last, r.skipped);
         let c = core_of(core, number, last, startup, bus);
         let v = inplace::ask(t, c, &held, r, n);
         let Verdict::Taken = v else {
@@ -136,7 +153,7 @@ fn fold(
         let beat = databus::beat_on(last, masks, write, driven, r.masks, n);
         inplace::mark_bank(beat, n, &mut held);
         page::stored(m, core.bank, core.row, r.dq, beat, page);
-        reporting::report(beats, number, beat, n);
+        report(beats, number, beat, n);
         own = beat;
         last = Event::On(n);
         number += 1;
@@ -158,6 +175,18 @@ fn unmoved(v: Verdict, s: State) -> Went
         beat,
         next: s,
     }
+}
+
+// How many of `count` records come before one whose number is above 2^41.
+fn before_max(count: usize, number: u64) -> usize
+    requires { ⌜ number ≤ number-max ⌝ }
+    ensures { λ x. ⌜ x ≡ cond (leb count (suc number-max - number)) count (suc number-max - number) ⌝ }
+{
+    let room = NUMBER_MAX + 1 - number;
+    if count as u64 <= room {
+        return count;
+    }
+    room as usize
 }
 
 // The record after those that were taken has a number above 2^41: it gets 25, as from the one-record call.
@@ -197,7 +226,7 @@ pub fn judge(
     };
     let core = s.core;
     let banks = s.banks;
-    let some = entry::before_max(count, core.number);
+    let some = before_max(count, core.number);
     let end = 16 * some;
     let w = fold(u, core, banks, &bytes[0..end], some, page, beats);
     if some < count {

@@ -1,14 +1,9 @@
-// What is tried before a record is looked at, and how many records may be judged.
+// What is tried before a record is looked at.
 ghost use mathlib.Core.Path.{_≡_};
-ghost use Prim.Native.Nat.{suc, _≤_, _-_};
-ghost use mathlib.Core.Bool.{cond};
-ghost use lib.Dec.{leb};
 ghost use Rattle.rules.specs.Numbers.{first-broken};
-ghost use Rattle.rules.specs.Fits.{number-max};
 ghost use Rattle.rules.specs.OneRecord.{fit-rules, state-rules};
 ghost use Rattle.rules.specs.Report.{records-rules};
-use parts::admitting;
-use rules::NUMBER_MAX;
+use crate::admitting;
 use rules::Setup;
 use rules::State;
 use rules::Verdict;
@@ -55,16 +50,4 @@ pub fn records_verdict(u: Setup, s: State, bytes: usize, lent: usize) -> Verdict
         return Verdict::refused(1);
     }
     state_verdict(u, s, lent)
-}
-
-// How many of `count` records come before one whose number is above 2^41.
-pub fn before_max(count: usize, number: u64) -> usize
-    requires { ⌜ number ≤ number-max ⌝ }
-    ensures { λ x. ⌜ x ≡ cond (leb count (suc number-max - number)) count (suc number-max - number) ⌝ }
-{
-    let room = NUMBER_MAX + 1 - number;
-    if count as u64 <= room {
-        return count;
-    }
-    room as usize
 }

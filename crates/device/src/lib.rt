@@ -5,8 +5,9 @@ use rules::Ran;
 use rules::State;
 use rules::Verdict;
 
+mod admitting;
 mod engine;
-mod entry;
+pub mod entry;
 mod many;
 pub mod reporting;
 mod single;

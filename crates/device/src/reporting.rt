@@ -1,12 +1,9 @@
-// What a record reports: its beat and its clock as two words, where the lent slice has their places.
+// A beat as a word, and a word where the lent slice has its place.
 ghost use mathlib.Core.Path.{_≡_};
-ghost use Prim.Native.Nat.{_≤_};
 ghost use lib.ListN.{set};
-ghost use Rattle.rules.specs.Fits.{number-max};
-ghost use Rattle.rules.specs.Report.{beat-word, cells-word, put-line};
+ghost use Rattle.rules.specs.Report.{beat-word, cells-word};
 use bursts::Beat;
 use bursts::Cells;
-use units::Clock;
 
 fn cells_word(kind: u8, c: Cells) -> u64
     ensures { λ r. ⌜ r ≡ cells-word kind c ⌝ }
@@ -30,22 +27,10 @@ pub fn beat_word(b: Beat) -> u64
 }
 
 // "Each word is written where the slice has its place."
-fn put(beats: &mut [u64], at: usize, word: u64)
+pub fn put(beats: &mut [u64], at: usize, word: u64)
     ensures { λ _. ⌜ now (beats .exit) ≡ set (now (beats .entry)) at word ⌝ }
 {
     if at < beats.len() {
         beats[at] = word;
-    }
-}
-
-// Record k's beat and clock. Where the beat has no place, the clock has none.
-pub fn report(beats: &mut [u64], k: u64, beat: Beat, n: Clock)
-    requires { ⌜ k ≤ number-max ⌝ }
-    ensures { λ _. ⌜ now (beats .exit) ≡ put-line k (record { clock = n; beat = beat }) (now (beats .entry)) ⌝ }
-{
-    let at = 2 * (k as usize);
-    if at < beats.len() {
-        beats[at] = beat_word(beat);
-        put(beats, at + 1, n.0);
     }
 }

@@ -49,7 +49,14 @@ impl Device {
         let core = s.core;
         let mut no_page = [0u8; 1];
         let mut no_beats = [0u64; 1];
-        let w = engine::judge(setup, s, bytes, page.len(), &mut no_page[0..0], &mut no_beats[0..0]);
+        let w = engine::judge(
+            setup,
+            s,
+            bytes,
+            page.len(),
+            &mut no_page[0..0],
+            &mut no_beats[0..0],
+        );
         let v = w.verdict;
         answer(v, w.reported, core.number, quiet)
     }

@@ -3,11 +3,11 @@
 use crate::figures::lasts;
 use bursts::Bus;
 use layout::Record;
-use parts::steps;
 use rules::Bank;
 use rules::StartUp;
 use rules::State;
 use rules::Status;
+use rules::steps;
 use units::Clock;
 use units::Event;
 use units::Ps;

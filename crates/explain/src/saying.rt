@@ -11,8 +11,8 @@ use crate::walking::Halt;
 use layout::Header;
 use layout::Record;
 use lines::put_text;
-use parts::banks;
 use rules::Status;
+use rules::banks;
 use speed::SpeedTable;
 use units::Ps;
 

@@ -4,3 +4,4 @@ pub mod InTime
 pub mod Calls
 pub mod Walk
 pub mod OneAnswer
+pub mod Monitored

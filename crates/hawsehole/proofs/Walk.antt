@@ -36,67 +36,16 @@ use Rattle.rules.proofs.Admitted.{admitted, fits-admitted}
 use Rattle.rules.proofs.Kept.{kept}
 use Rattle.rules.proofs.Runs.{next-number, page-next}
 use Rattle.rules.proofs.OneRecord.{refused, taken, step-refuses, entry-refused, taken-at-zero, step-taken}
-use Rattle.parts.specs.Reach.{Able}
-use Rattle.device.proofs.Starts.{at-most, Entry, entry-of, records-entered, records-past}
-use Rattle.device.proofs.Folds.{able-next}
+use Rattle.rules.specs.Calls.{Able}
+use Rattle.device.proofs.Starts.{records-ladder, at-most, Entry, entry-of, records-entered, records-past}
+use Rattle.device.proofs.Ready.{Ready, ready-of, ready-entered, ready-next}
+use Rattle.device.proofs.Joined.{longer, longer-is}
 use Rattle.device.proofs.FoldRun.{fold-taken, fold-refused}
 use Rattle.hawsehole.specs.Trace.{start-of}
 use Rattle.hawsehole.specs.Numbers.{whole-call}
 use Rattle.hawsehole.specs.Walk.{walk}
 use Rattle.hawsehole.proofs.Whole.{entry}
 use Rattle.hawsehole.proofs.Calls.{rest-long, enters, call-records}
-
--- ── A store keeps the page's length ──
-
-lanes-length : (k at low dq : ℕ) (page : List ℕ) → length (put-lanes k at low dq page) ≡ length page
-unfolding put-lanes
-lanes-length zero at low dq page = refl
-lanes-length (suc k) at low dq page =
-    lanes-length k (at + 1) (low / 2) (dq / 256) (cond (eqb (low % 2) 1) (set page at (dq % 256)) page) ∙ go (eqb (low % 2) 1)
-  where
-    go : (b : Bool) → length (cond b (set page at (dq % 256)) page) ≡ length page
-    go true = length-set page at (dq % 256)
-    go false = refl
-
-stored-length : (m : Module) (bank row dq : ℕ) (b : Beat) (page : List ℕ) → length (stored m bank row dq b page) ≡ length page
-unfolding stored
-stored-length m bank row dq Quiet page = refl
-stored-length m bank row dq (Stores c) page = go (eqb (c .bank) bank && eqb (c .row) row)
-  where
-    go : (b : Bool) → length (cond b (put-cells m c dq page) page) ≡ length page
-    go true = lanes-length (lanes m) (lanes m * c .column) (c .lanes) dq page
-    go false = refl
-stored-length m bank row dq (Drives c) page = refl
-
--- ── What each call of the walk is entered with ──
-
--- a state from which so many records may still be judged, whose period, table and page pass 3, 6 and 7
-record Ready (u : Setup) (s : State) (count : ℕ) (page : List ℕ) : Type 0 where
-  able : Able u s count
-  period : period-fits (s .core .period) ≡ true
-  grade : grade-known (s .core .grade) ≡ true
-  table : table-fits (u .table) ≡ true
-  lent : length page ≡ page-bytes (state-module s)
-
--- 1, 3, 4, 6, 7 and 25 pass
-ready-entered : (u : Setup) (s : State) (count : ℕ) (bytes page : List ℕ) → Ready u s (suc count) page → length bytes ≡ 16
-    → first-broken (entry-rules u s bytes page) ≡ Taken
-unfolding entry-rules state-rules
-ready-entered u s count bytes page e h =
-    rw (sixteen-pass (state-module s) bytes h, e .period, e .grade, e .table, eq-eqb (length page) (page-bytes (state-module s)) (e .lent), fits-admitted s (e .able .state (omega arith)))
-
--- a taken record leaves the same for one record less
-ready-next : (u : Setup) (s : State) (k : ℕ) (bytes page : List ℕ) → Ready u s (suc k) page → ask u s (record-for s bytes) ≡ Taken
-    → Ready u (next u s (record-for s bytes)) k (page-next s (record-for s bytes) page)
-unfolding next core-after core-from
-ready-next u s k bytes page e p =
-    record {
-      able = able-next u s k (record-for s bytes) (subst (λ (c : ℕ). Able u s c) (sym (add-one k)) (e .able)) (record-fits (state-module s) bytes) (record-on (state-module s) bytes) p;
-      period = e .period;
-      grade = e .grade;
-      table = e .table;
-      lent = stored-length (state-module s) (s .core .bank) (s .core .row) (record-for s bytes .dq) (own-beat s (record-for s bytes)) page ∙ e .lent;
-    }
 
 -- ── One call ──
 
@@ -142,15 +91,6 @@ module _ (u : Setup) (s : State) (k : ℕ) (bytes page beats : List ℕ) where
 walk-none : (u : Setup) (s : State) (bytes page beats : List ℕ) → walk u s 0 bytes page beats ≡ left (ran Taken (s .core .number)) page beats
 unfolding walk
 walk-none u s bytes page beats = refl
-
--- so many records, and so many after them
-abbrev longer : ℕ → ℕ → ℕ
-longer zero more = more
-longer (suc k) more = suc (longer k more)
-
-longer-is : (k more : ℕ) → longer k more ≡ k + more
-longer-is zero more = sym (zero-add more)
-longer-is (suc k) more = ap suc (longer-is k more) ∙ sym (suc-add k more)
 
 -- the walk over `count` records and `more` after them, up to record number `total`: the fold over the first, then `after`, which what
 -- the calls give at that number must be, and which leaves a refusal as it is
@@ -219,16 +159,11 @@ twenty-five u more s bytes page beats h e k =
 -- what the call tries before its first record is ready for as many records as may be judged
 ready : (u : Setup) (s : State) (bytes : ℕ) (page : List ℕ) → first-broken (records-rules u s bytes (length page)) ≡ Taken
     → Ready u s (at-most (bytes / 16) (room s)) page
-unfolding records-rules state-rules
+unfolding records-rules
 ready u s bytes page p =
-    let l = records-rules u s bytes (length page) in
-    record {
-      able = entry-of u s bytes (length page) p .able;
-      period = kept 3 0 l p;
-      grade = kept 4 0 l p;
-      table = kept 6 0 l p;
-      lent = eqb-true (length page) (page-bytes (state-module s)) (kept 7 0 l p);
-    }
+    let whole = kept 1 0 (records-rules u s bytes (length page)) p in
+    let e = entry-of u s bytes (length page) p in
+    ready-of u s (at-most (bytes / 16) (room s)) page (sym (records-ladder u s bytes (length page) whole) ∙ p) (e .able .room)
 
 -- THE ONE-RECORD CALL ON EACH RECORD IN TURN IS THE CALL OF MANY RECORDS, where 1, 3, 4, 6, 7 and 25 pass before the first
 pub walk-records : (u : Setup) (s : State) (bytes page beats : List ℕ)

@@ -1,5 +1,6 @@
 pub mod Trace
 pub mod Numbers
+pub mod Monitor
 pub mod Walk
 pub mod Demand3
 pub mod Printed

@@ -4,7 +4,10 @@ ghost use Rattle.rules.specs.Numbers.{first-broken};
 ghost use Rattle.rules.specs.Report.{left};
 ghost use Rattle.hawsehole.specs.Trace.{lent-rules, whole-rules};
 ghost use Rattle.speed.specs.Table.{table};
-ghost use Rattle.hawsehole.specs.Numbers.{whole-call, answer-word, answered, judge-beats, alone, judge-alone};
+ghost use Rattle.hawsehole.specs.Numbers.{whole-call, word-of, answer-word, with-table, answered, judge-beats, alone, judge-alone};
+
+mod monitor;
+
 use device::Device;
 use layout::Header;
 use layout::HeaderBytes;
@@ -78,14 +81,55 @@ pub fn judge(u: Setup, trace: &[u8], page: &mut [u8], beats: &mut [u64]) -> Ran
     judged.ran
 }
 
-// The answer as one number: bits 0 to 7 the number, 8 to 15 the interval, 16 to 39 the record.
+// An answer as one number: bits 0 to 7 the number, 8 to 15 the interval, 16 to 39 the record.
+fn word_of(number: u8, interval: u8, reported: u64) -> u64
+    ensures { λ x. ⌜ x ≡ word-of number interval reported ⌝ }
+{
+    number as u64 + interval as u64 * 256 + reported % 16_777_216 * 65_536
+}
+
+// The whole-trace judge's.
 pub fn answer_word(r: Ran) -> u64
     ensures { λ x. ⌜ x ≡ answer-word r ⌝ }
 {
     let v = r.verdict;
-    let number = v.number() as u64;
-    let interval = v.interval() as u64;
-    number + interval * 256 + r.reported % 16_777_216 * 65_536
+    word_of(v.number(), v.interval(), r.reported)
+}
+
+// The speed table of thirteen numbers in document 01's order.
+fn setup_of(
+    t1: u64,
+    t2: u64,
+    t3: u64,
+    t4: u64,
+    t5: u64,
+    t6: u64,
+    t7: u64,
+    t8: u64,
+    t9: u64,
+    t10: u64,
+    t11: u64,
+    t12: u64,
+    t13: u64,
+) -> Setup
+    ensures { λ r. ⌜ r ≡ with-table (table t1 t2 t3 t4 t5 t6 t7 t8 t9 t10 t11 t12 t13) ⌝ }
+{
+    let table = SpeedTable {
+        tck2: Ps(t1),
+        tck3: Ps(t2),
+        trasmin: Ps(t3),
+        trasmax: Ps(t4),
+        trc: Ps(t5),
+        trcd: Ps(t6),
+        trp: Ps(t7),
+        trrd: Ps(t8),
+        trfc: Ps(t9),
+        twr: Ps(t10),
+        addition: Ps(t11),
+        interval: Ps(t12),
+        tmrd: Clock(t13),
+    };
+    Setup { table }
 }
 
 // The whole-trace judge for C, over byte slices and the thirteen numbers of the speed table in document 01's order.
@@ -110,22 +154,7 @@ pub extern "C" fn hawsehole_judge_beats(
 ) -> u64
     ensures { λ r. ⌜ answered r (now (page .exit)) (now (beats .exit)) ≡ judge-beats (table t1 t2 t3 t4 t5 t6 t7 t8 t9 t10 t11 t12 t13) (now (trace .entry)) (now (page .entry)) (now (beats .entry)) ⌝ }
 {
-    let table = SpeedTable {
-        tck2: Ps(t1),
-        tck3: Ps(t2),
-        trasmin: Ps(t3),
-        trasmax: Ps(t4),
-        trc: Ps(t5),
-        trcd: Ps(t6),
-        trp: Ps(t7),
-        trrd: Ps(t8),
-        trfc: Ps(t9),
-        twr: Ps(t10),
-        addition: Ps(t11),
-        interval: Ps(t12),
-        tmrd: Clock(t13),
-    };
-    let u = Setup { table };
+    let u = setup_of(t1, t2, t3, t4, t5, t6, t7, t8, t9, t10, t11, t12, t13);
     let ran = judge(u, trace, page, beats);
     answer_word(ran)
 }

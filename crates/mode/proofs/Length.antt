@@ -1,5 +1,5 @@
 -- The length of a burst is a power of two, at most the row's columns; so a beat's column keeps to its block. Assumes nothing.
-use Prim.Native.Nat.{ℕ, zero, suc, _+_, _-_, _%_, _^_, _≤_, _<_}
+use Prim.Native.Nat.{ℕ, zero, suc, _+_, _-_, _*_, _%_, _^_, _≤_, _<_}
 use mathlib.Core.Path.{_≡_, refl, sym}
 use mathlib.Core.Bool.{true}
 use mathlib.Core.List.{[], _∷_}
@@ -20,6 +20,18 @@ length-at k = getD (1 ∷ 2 ∷ 4 ∷ 8 ∷ []) k bench-columns
 pub past-is-columns : (w : ℕ) → 4 ≤ w % 8 → bench-columns ≡ length-of w
 unfolding length-of
 past-is-columns w h = sym (List·getD-eq-default (1 ∷ 2 ∷ 4 ∷ 8 ∷ []) bench-columns h)
+
+-- 0 to 3 mean 1 shifted by so many bits
+pub shift-is-length : (w : ℕ) → w % 8 < 4 → 1 * 2 ^ (w % 8) % 65_536 ≡ length-of w
+unfolding length-of
+shift-is-length w = go (w % 8)
+  where
+    go : (k : ℕ) → k < 4 → 1 * 2 ^ k % 65_536 ≡ length-at k
+    go zero h = refl
+    go (suc zero) h = refl
+    go (suc (suc zero)) h = refl
+    go (suc (suc (suc zero))) h = refl
+    go (suc (suc (suc (suc k)))) h = absurd (omega arith)
 
 -- the exponent of the length of M2 to M0 = k
 exponent : ℕ → ℕ

@@ -28,17 +28,13 @@ pub fn full_page(w: u16) -> bool
     w % 8 == 7
 }
 
-// M2 to M0: "0, 1, 2, 3 mean 1, 2, 4, 8"; in full page, the row's columns. A reserved length is read like full page.
+// M2 to M0: "0, 1, 2, 3 mean 1, 2, 4, 8"; in full page, the row's columns. A reserved length is read like full page. By a shift:
+// a table is looked up for each burst on each clock.
 pub fn length_of(w: u16) -> u16
     ensures { λ r. ⌜ r ≡ length-of w ⌝ }
 {
-    match w % 8 {
-        0 => 1,
-        1 => 2,
-        2 => 4,
-        3 => 8,
-        _ => COLUMNS,
-    }
+    let k = w % 8;
+    if k < 4 { 1 << k } else { COLUMNS }
 }
 
 // M3.

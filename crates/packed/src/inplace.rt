@@ -4,7 +4,8 @@ ghost use Prim.Native.Nat.{_≤_, _<_, _%_};
 ghost use Rattle.units.specs.Time.{at};
 ghost use Rattle.speed.specs.Bounds.{Bounds};
 ghost use Rattle.layout.specs.Commands.{command, executable};
-ghost use Rattle.parts.specs.Reach.{Reach, FitPeriod, BanksFit, Call};
+ghost use Rattle.units.specs.Reach.{Reach, FitPeriod};
+ghost use Rattle.rules.specs.Calls.{BanksFit, Call};
 ghost use Rattle.rules.specs.Numbers.{first-broken, asked};
 ghost use Rattle.rules.specs.Banks.{row-of, every, open-within};
 ghost use Rattle.bursts.specs.Bus.{bus-after};
@@ -21,16 +22,16 @@ use bursts::Beat;
 use bursts::Bus;
 use layout::Command;
 use layout::Record;
-use parts::closing;
-use parts::time;
 use rules::Bank;
 use rules::Core;
 use rules::StartUp;
 use rules::Verdict;
+use rules::closing;
 use speed::SpeedTable;
 use taking::leaving;
 use units::Clock;
 use units::Ps;
+use units::time;
 
 // These banks as numbers.
 pub fn hold(banks: [Bank; 4]) -> [u64; 32]
@@ -83,7 +84,7 @@ fn ask_command(t: SpeedTable, c: Core, held: &[u64; 32], r: Record, n: Clock, mo
         let all = numbers::banks(held);
         return commands::ask_active(t, c, own, all, r, n, moment);
     }
-    if code < 7 {
+    if layout::is_executable(k) {
         let own = numbers::bank(held, r.ba);
         let all = numbers::banks(held);
         return commands::ask_burst(k, t, c, own, all, r, n, moment);

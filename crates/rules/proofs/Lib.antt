@@ -10,3 +10,4 @@ pub mod Stays
 pub mod OneRecord
 pub mod InTime
 pub mod Four
+pub mod Times

@@ -9,6 +9,7 @@ pub mod After
 pub mod Run
 pub mod Fits
 pub mod Admitted
+pub mod Calls
 pub mod OneRecord
 pub mod Report
 pub mod Harder

@@ -59,10 +59,10 @@ use Rattle.rules.specs.After.{
   banks-after,
   next,
 }
-use Rattle.rules.specs.Run.{Line, run, page-after}
+use Rattle.rules.specs.Run.{Line, run, page-after, all-taken}
 use Rattle.rules.specs.Fits.{bank-fits, burst-fits, core-fits, fits}
 use Rattle.rules.specs.OneRecord.{state-rules}
-use Rattle.rules.specs.Report.{Left, beat-word, put-line, lines-into, fold, records-rules, records-lent, records-call}
+use Rattle.rules.specs.Report.{Left, beat-word, put-line, lines-into, fold, records-rules, records-lent, records-call, call-run, records-next}
 use Rattle.rules.specs.Cases.{active, with-133}
 use Rattle.rules.specs.StateCases.{over, state, of-grade, bank}
 
@@ -276,11 +276,38 @@ many =
     ∷ unasked grade-133 16384 (wrong 7_500 2) [] 25
     ∷ []
 
+-- ── The state that it leaves ──
+
+-- 7 and a refused first record leave it
+abbrev unmoved : List (Row State)
+unmoved =
+    records-next with-133 (running 1) nop-bytes 16383 gives running 1
+    ∷ records-next with-133 (running 1) (nop-bytes ++ nop-bytes) 16385 gives running 1
+    ∷ records-next with-133 (running 1) (active-bytes ++ nop-bytes) 16384 gives running 1
+    ∷ records-next with-133 (running 1) [] 16384 gives running 1
+    ∷ []
+
+-- the number of the next record, from this state
+abbrev moved : ℕ → List ℕ → ℕ → Row ℕ
+moved number bytes after = records-next with-133 (running number) bytes 16384 .core .number gives after
+
+abbrev moves : List (Row ℕ)
+moves =
+    moved 1 nop-bytes 2
+    ∷ moved 1 (nop-bytes ++ nop-bytes) 3
+    -- the refused record does not count, nor those after it; nor one whose number is above 2^41
+    ∷ moved 1 (nop-bytes ++ active-bytes ++ nop-bytes) 2
+    ∷ moved (2 ^ 41) (nop-bytes ++ nop-bytes) (2 ^ 41 + 1)
+    ∷ moved (2 ^ 41 - 1) (nop-bytes ++ nop-bytes ++ nop-bytes) (2 ^ 41 + 1)
+    ∷ []
+
 pub report-right :
     (found words ≡ expected words)
     × (found places ≡ expected places)
     × (found pages ≡ expected pages)
     × (found folds ≡ expected folds)
     × (found many ≡ expected many)
-unfolding module-of column-on has-pins lane-masks table-fits record-from records-of length-of beat-column has-beat write-beat read-beat finished masks-on masks-after reads-from bus-after beat-on bursts-finished driven bus-clear put-lanes stored allowed banks-found of-closing of-any of-active of-access of-precharged of-precharge of-idle events minima every-rules place-rules minimum-rules mode-rules bus-rules command-rules rules ask startup-after beat core-from core-after bank-after commanded mark-banks banks-after next page-after bank-fits burst-fits core-fits fits state-rules beat-word put-line lines-into run fold records-rules records-lent
-report-right = (refl, refl, refl, refl, refl)
+    × (found unmoved ≡ expected unmoved)
+    × (found moves ≡ expected moves)
+unfolding module-of column-on has-pins lane-masks table-fits record-from records-of length-of beat-column has-beat write-beat read-beat finished masks-on masks-after reads-from bus-after beat-on bursts-finished driven bus-clear put-lanes stored allowed banks-found of-closing of-any of-active of-access of-precharged of-precharge of-idle events minima every-rules place-rules minimum-rules mode-rules bus-rules command-rules rules ask startup-after beat core-from core-after bank-after commanded mark-banks banks-after next page-after bank-fits burst-fits core-fits fits state-rules beat-word put-line lines-into run all-taken fold records-rules records-lent call-run
+report-right = (refl, refl, refl, refl, refl, refl, refl)

@@ -2,6 +2,12 @@
 ghost use mathlib.Core.Path.{_≡_};
 ghost use Rattle.rules.specs.Numbers.{number-of, interval-of};
 ghost use Rattle.rules.specs.OneRecord.{period-fits, grade-known};
+
+pub mod banks;
+pub mod clocks;
+pub mod closing;
+pub mod steps;
+
 use bursts::Beat;
 use bursts::Bus;
 use speed::SpeedTable;

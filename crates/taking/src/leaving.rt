@@ -6,7 +6,8 @@ ghost use Rattle.layout.specs.Commands.{is};
 ghost use Prim.Native.Nat.{_≤_, _<_};
 ghost use Rattle.units.specs.declared.Event.the-variants as Event;
 ghost use Rattle.speed.specs.Bounds.{Bounds};
-ghost use Rattle.parts.specs.Reach.{FitPeriod, BanksFit};
+ghost use Rattle.units.specs.Reach.{FitPeriod};
+ghost use Rattle.rules.specs.Calls.{BanksFit};
 ghost use Rattle.rules.specs.Admitted.{FitBank, FitStatus};
 ghost use Rattle.rules.specs.Rules.{asks-auto};
 ghost use Rattle.units.specs.Time.{at};
@@ -23,20 +24,20 @@ use bursts::Bus;
 use bursts::databus;
 use layout::Command;
 use layout::Record;
-use parts::banks;
-use parts::closing;
-use parts::steps;
-use parts::time;
 use rules::Bank;
 use rules::Refreshes;
 use rules::Register;
 use rules::StartUp;
 use rules::Status;
+use rules::banks;
+use rules::closing;
+use rules::steps;
 use speed::SpeedTable;
 use units::BANKS;
 use units::Clock;
 use units::Event;
 use units::Ps;
+use units::time;
 
 fn event_if(x: bool, n: Clock, old: Event) -> Event
     ensures { λ r. ⌜ r ≡ cond x (Event.On n) old ⌝ }

@@ -8,6 +8,9 @@ use Rattle.hawsehole.proofs.hawsehole_judge_beats.Lts as lts
 use Rattle.hawsehole.proofs.answer_word.Reads as answer-word-reads
 use Rattle.hawsehole.proofs.judge.Reads as judge-reads
 
+setup-of-requires : tie.Need-setup-of-requires
+setup-of-requires c κs = search needs
+
 judge-requires : tie.Need-judge-requires
 judge-requires c κs = search needs
 
@@ -22,8 +25,8 @@ same-length-2 c = search needs
 
 returns : tie.Need-returns
 unfolding judge-beats
-returns c = rw (c .answer-word .ensures) (ap packed (c .before .before .before .before .before .judge .ensures))
+returns c = rw (c .answer-word .ensures, ← c .before .before .before .before .before .before .before .before .setup-of .ensures) (ap packed (c .before .before .before .before .before .judge .ensures))
 
 pub hawsehole-judge-beats-spec : {M : Type 1} → statement M
 hawsehole-judge-beats-spec =
-    tie.close (tie.spec judge-requires answer-word-requires same-length same-length-2 returns)
+    tie.close (tie.spec setup-of-requires judge-requires answer-word-requires same-length same-length-2 returns)

@@ -12,9 +12,9 @@ use Rattle.asking.proofs.minima.active_shorts.Reads as active-shorts-re
 use Rattle.asking.proofs.minima.any_shorts.Reads as any-shorts-reads
 use Rattle.asking.proofs.minima.either.Reads as either-reads
 use Rattle.asking.proofs.minima.lowest.Reads as lowest-reads
-use Rattle.parts.proofs.banks.is_closed.Reads as is-closed-reads
-use Rattle.parts.proofs.steps.begun.Reads as begun-reads
-use Rattle.parts.proofs.steps.started.Reads as started-reads
+use Rattle.rules.proofs.banks.is_closed.Reads as is-closed-reads
+use Rattle.rules.proofs.steps.begun.Reads as begun-reads
+use Rattle.rules.proofs.steps.started.Reads as started-reads
 use Rattle.rules.proofs.Verdict.refused.Reads as refused-reads
 
 -- src/commands.rt:151:8

@@ -6,7 +6,7 @@ use Rattle.asking.proofs.commands.ask_banks.Reads as reads
 use Rattle.asking.proofs.commands.ask_banks.Lts as lts
 use Rattle.asking.proofs.commands.ask_begun.Reads as ask-begun-reads
 use Rattle.asking.proofs.commands.ask_first.Reads as ask-first-reads
-use Rattle.parts.proofs.steps.begun.Reads as begun-reads
+use Rattle.rules.proofs.steps.begun.Reads as begun-reads
 
 -- src/commands.rt:162:8
 begun-requires : tie.Need-begun-requires

@@ -17,9 +17,9 @@ use Rattle.asking.proofs.minima.either.Reads as either-reads
 use Rattle.asking.proofs.minima.lowest.Reads as lowest-reads
 use Rattle.asking.proofs.verdicts.bus_verdict.Reads as bus-verdict-reads
 use Rattle.layout.proofs.is_access.Reads as is-access-reads
-use Rattle.parts.proofs.banks.is_open.Reads as is-open-reads
-use Rattle.parts.proofs.steps.begun.Reads as begun-reads
-use Rattle.parts.proofs.steps.started.Reads as started-reads
+use Rattle.rules.proofs.banks.is_open.Reads as is-open-reads
+use Rattle.rules.proofs.steps.begun.Reads as begun-reads
+use Rattle.rules.proofs.steps.started.Reads as started-reads
 use Rattle.rules.proofs.Verdict.refused.Reads as refused-reads
 
 -- src/commands.rt:183:9

@@ -4,14 +4,14 @@ use Rattle.asking.proofs.commands.ask_load_mode.Statement.{statement}
 use Rattle.asking.proofs.commands.ask_load_mode.Tie as tie
 use Rattle.asking.proofs.commands.ask_load_mode.Reads as reads
 use Rattle.asking.proofs.commands.ask_load_mode.Lts as lts
-use Rattle.parts.proofs.banks.all_closed.Reads as all-closed-reads
+use Rattle.rules.proofs.banks.all_closed.Reads as all-closed-reads
 use Rattle.asking.proofs.minima.any_shorts.Reads as any-shorts-reads
 use Rattle.asking.proofs.minima.either.Reads as either-reads
 use Rattle.asking.proofs.minima.idle_shorts.Reads as idle-shorts-reads
 use Rattle.asking.proofs.minima.lowest.Reads as lowest-reads
 use Rattle.asking.proofs.verdicts.mode_verdict.Reads as mode-verdict-reads
 use Rattle.rules.proofs.Verdict.refused.Reads as refused-reads
-use Rattle.parts.proofs.steps.two_done.Reads as two-done-reads
+use Rattle.rules.proofs.steps.two_done.Reads as two-done-reads
 
 two-done-requires : tie.Need-two-done-requires
 two-done-requires c κs = search needs

@@ -4,7 +4,7 @@ use Rattle.asking.proofs.commands.ask_refresh.Statement.{statement}
 use Rattle.asking.proofs.commands.ask_refresh.Tie as tie
 use Rattle.asking.proofs.commands.ask_refresh.Reads as reads
 use Rattle.asking.proofs.commands.ask_refresh.Lts as lts
-use Rattle.parts.proofs.banks.all_closed.Reads as all-closed-reads
+use Rattle.rules.proofs.banks.all_closed.Reads as all-closed-reads
 use Rattle.asking.proofs.minima.any_shorts.Reads as any-shorts-reads
 use Rattle.asking.proofs.minima.either.Reads as either-reads
 use Rattle.asking.proofs.minima.idle_shorts.Reads as idle-shorts-reads

@@ -4,8 +4,8 @@ use Rattle.asking.proofs.maxima.closes_within.Statement.{statement}
 use Rattle.asking.proofs.maxima.closes_within.Tie as tie
 use Rattle.asking.proofs.maxima.closes_within.Reads as reads
 use Rattle.asking.proofs.maxima.closes_within.Lts as lts
-use Rattle.parts.proofs.closing.closing_time.Reads as closing-time-reads
-use Rattle.parts.proofs.time.at.Reads as at-reads
+use Rattle.rules.proofs.closing.closing_time.Reads as closing-time-reads
+use Rattle.units.proofs.time.at.Reads as at-reads
 use Rattle.units.proofs.Ps.within.Reads as within-reads
 
 enum-told : tie.Need-enum-told

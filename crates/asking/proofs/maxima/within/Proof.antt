@@ -4,7 +4,7 @@ use Rattle.asking.proofs.maxima.within.Statement.{statement}
 use Rattle.asking.proofs.maxima.within.Tie as tie
 use Rattle.asking.proofs.maxima.within.Reads as reads
 use Rattle.asking.proofs.maxima.within.Lts as lts
-use Rattle.parts.proofs.time.at.Reads as at-reads
+use Rattle.units.proofs.time.at.Reads as at-reads
 use Rattle.units.proofs.Ps.within.Reads as within-reads
 
 enum-told : tie.Need-enum-told

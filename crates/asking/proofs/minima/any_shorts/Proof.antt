@@ -1,5 +1,5 @@
 use Rattle.asking.proofs.Spans.{span}
-use Rattle.parts.proofs.Times.{time-most}
+use Rattle.rules.proofs.Times.{time-most}
 use native.Mathlib.Omega.{arith}
 use mathlib.Core.Path.{sym}
 use Rattle.rules.proofs.Admitted.{load-fits}
@@ -9,9 +9,9 @@ use Rattle.asking.proofs.minima.any_shorts.Statement.{statement}
 use Rattle.asking.proofs.minima.any_shorts.Tie as tie
 use Rattle.asking.proofs.minima.any_shorts.Reads as reads
 use Rattle.asking.proofs.minima.any_shorts.Lts as lts
-use Rattle.parts.proofs.steps.last_load.Reads as last-load-reads
-use Rattle.parts.proofs.steps.last_refresh.Reads as last-refresh-reads
-use Rattle.parts.proofs.time.at.Reads as at-reads
+use Rattle.rules.proofs.steps.last_load.Reads as last-load-reads
+use Rattle.rules.proofs.steps.last_refresh.Reads as last-refresh-reads
+use Rattle.units.proofs.time.at.Reads as at-reads
 use Rattle.asking.proofs.since.short_since.Reads as short-since-reads
 
 last-refresh-requires : tie.Need-last-refresh-requires

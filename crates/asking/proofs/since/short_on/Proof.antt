@@ -1,7 +1,7 @@
 use Prim.Native.Nat.{_+_}
 use Rattle.units.specs.Time.{at}
 use Rattle.asking.proofs.Spans.{below}
-use Rattle.parts.proofs.Times.{time-most}
+use Rattle.rules.proofs.Times.{time-most}
 use Rattle.asking.specs.Shorts.{short-on}
 use native.Mathlib.Omega.{arith}
 use borrow.Author.Needs.{needs}
@@ -9,7 +9,7 @@ use Rattle.asking.proofs.since.short_on.Statement.{statement}
 use Rattle.asking.proofs.since.short_on.Tie as tie
 use Rattle.asking.proofs.since.short_on.Reads as reads
 use Rattle.asking.proofs.since.short_on.Lts as lts
-use Rattle.parts.proofs.time.at.Reads as at-reads
+use Rattle.units.proofs.time.at.Reads as at-reads
 
 -- src/since.rt:17:9
 at-requires : tie.Need-at-requires

@@ -4,11 +4,11 @@ use Rattle.asking.proofs.verdicts.auto_verdict.Statement.{statement}
 use Rattle.asking.proofs.verdicts.auto_verdict.Tie as tie
 use Rattle.asking.proofs.verdicts.auto_verdict.Reads as reads
 use Rattle.asking.proofs.verdicts.auto_verdict.Lts as lts
-use Rattle.parts.proofs.closing.burst_end.Reads as burst-end-reads
+use Rattle.rules.proofs.closing.burst_end.Reads as burst-end-reads
 use Rattle.asking.proofs.maxima.closes_within.Reads as closes-within-reads
-use Rattle.parts.proofs.closing.ends_by_itself.Reads as ends-by-itself-reads
+use Rattle.rules.proofs.closing.ends_by_itself.Reads as ends-by-itself-reads
 use Rattle.rules.proofs.Verdict.refused.Reads as refused-reads
-use Rattle.parts.proofs.steps.word_in.Reads as word-in-reads
+use Rattle.rules.proofs.steps.word_in.Reads as word-in-reads
 
 word-in-requires : tie.Need-word-in-requires
 word-in-requires c κs = search needs

@@ -34,8 +34,9 @@ use Rattle.rules.specs.Closing.{burst-end}
 use Rattle.rules.specs.Rules.{clock-max, ask}
 use Rattle.rules.specs.After.{startup-after, commanded}
 use Rattle.rules.proofs.Rows.{clock-kept}
-use Rattle.parts.specs.Reach.{Reach, Able, Call}
-use Rattle.parts.proofs.Times.{clock-reach}
+use Rattle.units.specs.Reach.{Reach}
+use Rattle.rules.specs.Calls.{Able, Call}
+use Rattle.rules.proofs.Times.{clock-reach}
 use Rattle.packed.specs.Packed.{banks-in, Held, Packed}
 use Rattle.packed.proofs.Puts.{own-held, held-as, packed-held, held-packed}
 use Rattle.device.specs.InPlace.{words-ahead, whole, core-of, state-of}
@@ -50,7 +51,7 @@ use Rattle.bursts.proofs.databus.beat_on.Reads as beat-on-reads
 use Rattle.bursts.proofs.reads.can_end.Reads as can-end-reads
 use Rattle.device.proofs.engine.core_of.Reads as core-of-reads
 use Rattle.device.proofs.engine.went.Reads as went-reads
-use Rattle.device.proofs.reporting.report.Reads as report-reads
+use Rattle.device.proofs.engine.report.Reads as report-reads
 use Rattle.device.proofs.engine.words_at.Reads as words-at-reads
 use Rattle.layout.proofs.command_of.Reads as command-of-reads
 use Rattle.layout.proofs.is_executable.Reads as is-executable-reads
@@ -61,7 +62,7 @@ use Rattle.packed.proofs.inplace.mark_bank.Reads as mark-bank-reads
 use Rattle.packed.proofs.inplace.move_banks.Reads as move-banks-reads
 use Rattle.packed.proofs.inplace.move_bus.Reads as move-bus-reads
 use Rattle.page.proofs.stored.Reads as stored-reads
-use Rattle.parts.proofs.time.clock_of.Reads as clock-of-reads
+use Rattle.rules.proofs.clocks.clock_of.Reads as clock-of-reads
 use Rattle.taking.proofs.leaving.startup_after.Reads as startup-after-reads
 use Rattle.device.proofs.engine.fold.Statement.{statement}
 use Rattle.device.proofs.engine.fold.Tie as tie

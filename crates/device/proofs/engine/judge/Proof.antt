@@ -3,7 +3,7 @@ use Prim.Native.Nat.{ℕ, _-_, _≤_, _*_, _/_}
 use native.Mathlib.Omega.{arith}
 use mathlib.Core.Path.{_≡_, sym, subst, _∙_}
 use lib.ListN.{length, length-take}
-use Rattle.parts.specs.Reach.{Able}
+use Rattle.rules.specs.Calls.{Able}
 use Rattle.device.proofs.Starts.{most-within, entry-of, lent-refused, next-out, beat-out, all-left, next-left, last-left, some-left, some-next, some-last}
 use borrow.Author.Needs.{needs}
 use Rattle.device.proofs.engine.judge.Statement.{statement}
@@ -13,7 +13,7 @@ use Rattle.device.proofs.engine.judge.Lts as lts
 use Rattle.device.proofs.engine.above_max.Reads as above-max-reads
 use Rattle.device.proofs.engine.fold.Reads as fold-reads
 use Rattle.device.proofs.engine.unmoved.Reads as unmoved-reads
-use Rattle.device.proofs.entry.before_max.Reads as before-max-reads
+use Rattle.device.proofs.engine.before_max.Reads as before-max-reads
 use Rattle.device.proofs.entry.records_verdict.Reads as records-verdict-reads
 
 -- src/engine.rt:194:9

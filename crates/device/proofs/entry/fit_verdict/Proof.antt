@@ -5,7 +5,7 @@ use Rattle.device.proofs.entry.fit_verdict.Statement.{statement}
 use Rattle.device.proofs.entry.fit_verdict.Tie as tie
 use Rattle.device.proofs.entry.fit_verdict.Reads as reads
 use Rattle.device.proofs.entry.fit_verdict.Lts as lts
-use Rattle.parts.proofs.admitting.fits.Reads as admitting-fits-reads
+use Rattle.device.proofs.admitting.fits.Reads as admitting-fits-reads
 use Rattle.rules.proofs.Verdict.refused.Reads as refused-reads
 use Rattle.speed.proofs.SpeedTable.fits.Reads as SpeedTable-fits-reads
 use Rattle.units.proofs.Module.of_grade.Reads as of-grade-reads

@@ -12,7 +12,7 @@ use Rattle.packed.proofs.inplace.ask.Lts as lts
 use Rattle.asking.proofs.every.ask_moment.Reads as ask-moment-reads
 use Rattle.packed.proofs.inplace.ask_command.Reads as ask-command-reads
 use Rattle.packed.proofs.inplace.rows_within.Reads as rows-within-reads
-use Rattle.parts.proofs.time.at.Reads as at-reads
+use Rattle.units.proofs.time.at.Reads as at-reads
 use Rattle.rules.proofs.Verdict.refused.Reads as refused-reads
 
 -- src/inplace.rt:86:9

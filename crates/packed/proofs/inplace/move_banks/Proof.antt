@@ -4,7 +4,7 @@ use Rattle.units.specs.Time.{at}
 use Rattle.rules.specs.StartUp.{begun}
 use Rattle.rules.specs.Parts.{word-in}
 use Rattle.rules.specs.Closing.{burst-end}
-use Rattle.parts.specs.Reach.{BanksFit}
+use Rattle.rules.specs.Calls.{BanksFit}
 use Rattle.rules.specs.Admitted.{FitStatus}
 use Rattle.rules.specs.declared.Bank.{Bank}
 use Prim.Native.Nat.{_%_}
@@ -27,7 +27,7 @@ use Rattle.packed.proofs.numbers.put_status.Reads as put-status-reads
 use Rattle.packed.proofs.numbers.status.Reads as status-reads
 use Rattle.taking.proofs.leaving.activated.Reads as activated-reads
 use Rattle.taking.proofs.leaving.banks_moved.Reads as banks-moved-reads
-use Rattle.parts.proofs.closing.asks_auto.Reads as asks-auto-reads
+use Rattle.rules.proofs.closing.asks_auto.Reads as asks-auto-reads
 use Rattle.taking.proofs.leaving.self_closed.Reads as self-closed-reads
 
 -- src/inplace.rt:38:9

@@ -11,7 +11,7 @@ use Rattle.packed.proofs.numbers.event_number.Reads as event-number-rea
 use Rattle.packed.proofs.numbers.place.Reads as place-reads
 use Rattle.packed.proofs.numbers.status_kind.Reads as status-kind-reads
 use Rattle.packed.proofs.numbers.status_number.Reads as status-number-reads
-use Rattle.parts.proofs.banks.row_of.Reads as row-of-reads
+use Rattle.rules.proofs.banks.row_of.Reads as row-of-reads
 
 -- src/lib.rt:145:9
 place-requires : tie.Need-place-requires

@@ -9,7 +9,7 @@ use Rattle.packed.proofs.numbers.put_status.Lts as lts
 use Rattle.packed.proofs.numbers.place.Reads as place-reads
 use Rattle.packed.proofs.numbers.status_kind.Reads as status-kind-reads
 use Rattle.packed.proofs.numbers.status_number.Reads as status-number-reads
-use Rattle.parts.proofs.banks.row_of.Reads as row-of-reads
+use Rattle.rules.proofs.banks.row_of.Reads as row-of-reads
 
 -- src/lib.rt:124:9
 place-requires : tie.Need-place-requires

@@ -3,7 +3,7 @@ use Rattle.taking.proofs.leaving.auto_closed.Statement.{statement}
 use Rattle.taking.proofs.leaving.auto_closed.Tie as tie
 use Rattle.taking.proofs.leaving.auto_closed.Reads as reads
 use Rattle.taking.proofs.leaving.auto_closed.Lts as lts
-use Rattle.parts.proofs.closing.closing_time.Reads as closing-time-reads
+use Rattle.rules.proofs.closing.closing_time.Reads as closing-time-reads
 
 enum-told : tie.Need-enum-told
 enum-told c = search needs

@@ -6,7 +6,7 @@ use Rattle.taking.proofs.leaving.bank_after.Reads as reads
 use Rattle.taking.proofs.leaving.bank_after.Lts as lts
 use Rattle.taking.proofs.leaving.activated.Reads as activated-reads
 use Rattle.taking.proofs.leaving.auto_closed.Reads as auto-closed-reads
-use Rattle.parts.proofs.closing.asks_auto.Reads as asks-auto-reads
+use Rattle.rules.proofs.closing.asks_auto.Reads as asks-auto-reads
 use Rattle.taking.proofs.leaving.precharged.Reads as precharged-reads
 use Rattle.taking.proofs.leaving.with_status.Reads as with-status-reads
 use Rattle.layout.proofs.code_of.Reads as code-of-reads

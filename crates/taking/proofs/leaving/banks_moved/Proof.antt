@@ -5,10 +5,10 @@ use Rattle.taking.proofs.leaving.banks_moved.Tie as tie
 use Rattle.taking.proofs.leaving.banks_moved.Reads as reads
 use Rattle.taking.proofs.leaving.banks_moved.Lts as lts
 use Rattle.taking.proofs.leaving.commanded.Reads as commanded-reads
-use Rattle.parts.proofs.closing.burst_end.Reads as burst-end-reads
-use Rattle.parts.proofs.steps.begun.Reads as begun-reads
-use Rattle.parts.proofs.steps.word_in.Reads as word-in-reads
-use Rattle.parts.proofs.time.at.Reads as at-reads
+use Rattle.rules.proofs.closing.burst_end.Reads as burst-end-reads
+use Rattle.rules.proofs.steps.begun.Reads as begun-reads
+use Rattle.rules.proofs.steps.word_in.Reads as word-in-reads
+use Rattle.units.proofs.time.at.Reads as at-reads
 
 word-in-requires : tie.Need-word-in-requires
 word-in-requires c κs = search needs

@@ -4,8 +4,8 @@ use Rattle.taking.proofs.leaving.bus_moved.Tie as tie
 use Rattle.taking.proofs.leaving.bus_moved.Reads as reads
 use Rattle.taking.proofs.leaving.bus_moved.Lts as lts
 use Rattle.bursts.proofs.databus.bus_after.Reads as bus-after-reads
-use Rattle.parts.proofs.banks.row_of.Reads as row-of-reads
-use Rattle.parts.proofs.steps.word_in.Reads as word-in-reads
+use Rattle.rules.proofs.banks.row_of.Reads as row-of-reads
+use Rattle.rules.proofs.steps.word_in.Reads as word-in-reads
 
 word-in-requires : tie.Need-word-in-requires
 word-in-requires c κs = search needs

@@ -3,8 +3,8 @@ use Rattle.taking.proofs.leaving.self_closed.Statement.{statement}
 use Rattle.taking.proofs.leaving.self_closed.Tie as tie
 use Rattle.taking.proofs.leaving.self_closed.Reads as reads
 use Rattle.taking.proofs.leaving.self_closed.Lts as lts
-use Rattle.parts.proofs.closing.burst_end.Reads as burst-end-reads
-use Rattle.parts.proofs.steps.word_in.Reads as word-in-reads
+use Rattle.rules.proofs.closing.burst_end.Reads as burst-end-reads
+use Rattle.rules.proofs.steps.word_in.Reads as word-in-reads
 use Rattle.taking.proofs.leaving.auto_closed.Reads as auto-closed-reads
 
 -- src/leaving.rt:263:9

@@ -3,7 +3,7 @@ use Rattle.taking.proofs.leaving.touches.Statement.{statement}
 use Rattle.taking.proofs.leaving.touches.Tie as tie
 use Rattle.taking.proofs.leaving.touches.Reads as reads
 use Rattle.taking.proofs.leaving.touches.Lts as lts
-use Rattle.parts.proofs.closing.asks_auto.Reads as asks-auto-reads
+use Rattle.rules.proofs.closing.asks_auto.Reads as asks-auto-reads
 use Rattle.layout.proofs.code_of.Reads as code-of-reads
 
 -- src/leaving.rt:221:9

@@ -1,0 +1,29 @@
+-- `words::writing::put_bank` meets its contract: its callees' answers are the definition's. Assumes nothing.
+use borrow.Author.Needs.{needs}
+use Rattle.words.proofs.writing.put_bank.Statement.{statement}
+use Rattle.words.proofs.writing.put_bank.Tie as tie
+
+bank-numbers-requires : tie.Need-bank-numbers-requires
+bank-numbers-requires c κs = search needs
+
+slice-aggregate-store-all : tie.Need-slice-aggregate-store-all
+slice-aggregate-store-all c = search needs
+
+store-all-requires : tie.Need-store-all-requires
+store-all-requires c κs = search needs
+
+same-length : tie.Need-same-length
+same-length c = search needs
+
+returns : tie.Need-returns
+returns c = rw (c .before .before .store-all .ensures, c .before .before .before .before .before .bank-numbers .ensures)
+
+pub put-bank-spec : {M : Type 1} → statement M
+put-bank-spec =
+    tie.close
+    (tie.spec
+    bank-numbers-requires
+    slice-aggregate-store-all
+    store-all-requires
+    same-length
+    returns)
