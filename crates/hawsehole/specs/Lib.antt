@@ -8,3 +8,4 @@ pub mod ModuleCases
 pub mod Traces
 pub mod WholeCases
 pub mod NumberCases
+pub mod MonitorCases

@@ -6,7 +6,7 @@ ghost use Rattle.hawsehole.specs.Trace.{lent-rules, whole-rules};
 ghost use Rattle.speed.specs.Table.{table};
 ghost use Rattle.hawsehole.specs.Numbers.{whole-call, word-of, answer-word, with-table, answered, judge-beats, alone, judge-alone};
 
-mod monitor;
+pub mod monitor;
 
 use device::Device;
 use layout::Header;

@@ -1,22 +1,22 @@
 -- READ BACK: the words of a state are read as that state, and hold it. Assumes nothing.
-use Prim.Native.Nat.{ℕ, _<_, _/_, _%_, _≤_}
+use Prim.Native.Nat.{ℕ, _+_, _<_, _/_, _%_}
 use native.Mathlib.Omega.{arith}
 use mathlib.Core.Path.{_≡_, refl, ap, sym, _∙_}
-use mathlib.Core.Bool.{Bool, true, false, _&&_, _||_, not}
+use mathlib.Core.Bool.{Bool, true, false, _&&_, _||_, not, cond}
 use mathlib.Core.List.{List, [], _∷_, _++_}
 use lib.Dec.{eqb, ltb}
 use lib.ListN.{length, replicate}
-use borrow.Author.Tests.{lt-ltb, eq-eqb, eqb-true}
+use borrow.Author.Tests.{lt-ltb, eq-eqb, eqb-true, ltb-true}
 use Rattle.units.specs.declared.Event.{Event}
 use Rattle.units.specs.declared.Event.the-variants.{Never, On}
 use Rattle.units.specs.declared.Module.{Module}
-use Rattle.units.specs.Module.{has-full-page, rows, columns}
+use Rattle.units.specs.Time.{clock, time}
+use Rattle.units.specs.Module.{has-full-page}
 use Rattle.units.proofs.Sizes.{rows-fit, columns-fit}
 use Rattle.units.proofs.Both.{both, joined}
 use Rattle.mode.specs.Word.{well-formed, legal, latency, full-page, interleaved}
 use Rattle.mode.proofs.Shown.{legal-is}
 use Rattle.bursts.specs.declared.Burst.{Burst}
-use Rattle.bursts.specs.declared.Bus.{Bus}
 use Rattle.rules.specs.declared.Refreshes.{Refreshes}
 use Rattle.rules.specs.declared.Refreshes.the-variants.{None, One, Two}
 use Rattle.rules.specs.declared.Register.{Register}
@@ -26,8 +26,10 @@ use Rattle.rules.specs.declared.Status.the-variants.{NotStarted, Open, Closed}
 use Rattle.rules.specs.declared.Bank.{Bank}
 use Rattle.rules.specs.declared.State.{State}
 use Rattle.rules.specs.Parts.{bank-of, state-module}
-use Rattle.rules.specs.Admitted.{Each, EachBurst, StatusOn, BankOn, RegisterOn, BurstOn, Admitted}
+use Rattle.rules.specs.Admitted.{Each, StatusOn, RegisterOn, BurstOn, Admitted}
 use Rattle.words.specs.Words.{
+  state-words,
+  number-in,
   small,
   middle,
   flag,
@@ -226,11 +228,91 @@ held s h =
 -- words that hold a state are that state's: there is one way to write it
 pub held-is : (l : List ℕ) → holds l ≡ true → l ≡ words-of (state-in l)
 unfolding holds
-held-is l h = same-is l (words-of (state-in l)) (both (eqb (length l) 94) (same l (words-of (state-in l))) h .1)
+held-is l h = same-is l (words-of (state-in l)) (both (eqb (length l) state-words) (same l (words-of (state-in l))) h .1)
 
 -- two lists of words that hold one state are the same words
 pub held-once : (l m : List ℕ) → holds l ≡ true → holds m ≡ true → state-in l ≡ state-in m → l ≡ m
 held-once l m h g e = held-is l h ∙ ap words-of e ∙ sym (held-is m g)
+
+-- ── A state that was read ──
+
+small-fits : (n : ℕ) → small n < 256
+unfolding small
+small-fits n = go (ltb n 256) refl
+  where
+    go : (x : Bool) → ltb n 256 ≡ x → cond x n 255 < 256
+    go true e = ltb-true n 256 e
+    go false e = omega arith
+
+middle-fits : (n : ℕ) → middle n < 65_536
+unfolding middle
+middle-fits n = go (ltb n 65_536) refl
+  where
+    go : (x : Bool) → ltb n 65_536 ≡ x → cond x n 65_535 < 65_536
+    go true e = ltb-true n 65_536 e
+    go false e = omega arith
+
+burst-fits : (l : List ℕ) (i : ℕ) → NarrowBurst (burst-in l i)
+unfolding burst-in
+burst-fits l i =
+    record {
+      bank = small-fits (number-in l (i + 2));
+      row = middle-fits (number-in l (i + 3));
+      column = middle-fits (number-in l (i + 4));
+      word = middle-fits (number-in l (i + 8));
+    }
+
+register-fits : (l : List ℕ) → NarrowRegister (register-in l)
+unfolding register-in
+register-fits l = go (eqb (number-in l 11) 0)
+  where
+    go : (x : Bool) → NarrowRegister (cond x Unloaded (Loaded (middle (number-in l 12)) (clock (number-in l 13))))
+    go true = tt
+    go false = middle-fits (number-in l 12)
+
+bank-fits : (l : List ℕ) (i : ℕ) → NarrowBank (bank-in l i)
+unfolding bank-in status-in
+bank-fits l i = go (eqb (number-in l i) 0) (eqb (number-in l i) 1)
+  where
+    go : (x y : Bool)
+        → NarrowStatus
+        (cond x NotStarted
+        (cond y (Open (middle (number-in l (i + 1))) (clock (number-in l (i + 2)))) (Closed (time (number-in l (i + 3))))))
+    go true y = tt
+    go false true = middle-fits (number-in l (i + 1))
+    go false false = tt
+
+-- whatever the words are, the state that they are read as can be read back
+pub read-narrow : (l : List ℕ) → Narrow (state-in l)
+unfolding state-in core-in bus-in masks-in startup-in
+read-narrow l =
+    record {
+      grade = small-fits (number-in l 1);
+      bank = small-fits (number-in l 2);
+      row = middle-fits (number-in l 3);
+      register = register-fits l;
+      bursts =
+          record {
+            write = burst-fits l 14;
+            reads = (burst-fits l 23, (burst-fits l 32, (burst-fits l 41, (burst-fits l 50, tt))));
+          };
+      masks =
+          record {
+            first = small-fits (number-in l 59);
+            second = small-fits (number-in l 60);
+            third = small-fits (number-in l 61);
+          };
+      banks = (bank-fits l 62, (bank-fits l 70, (bank-fits l 78, (bank-fits l 86, tt))));
+      four-reads = refl;
+      four-banks = refl;
+    }
+
+-- so its own words hold it, and are read as it again
+pub read-again : (l : List ℕ) → state-in (words-of (state-in l)) ≡ state-in l
+read-again l = read-back (state-in l) (read-narrow l)
+
+pub read-held : (l : List ℕ) → holds (words-of (state-in l)) ≡ true
+read-held l = held (state-in l) (read-narrow l)
 
 -- ── A state that number 25 passes ──
 

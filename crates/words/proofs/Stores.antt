@@ -1,5 +1,5 @@
 -- Numbers that are stored one after another are a list put over a list. Assumes nothing.
-use Prim.Native.Nat.{ℕ, zero, suc, _+_, _<_, _≤_}
+use Prim.Native.Nat.{ℕ, suc, _+_, _<_, _≤_}
 use native.Mathlib.Numerals.{add-one}
 use native.Mathlib.Omega.{arith}
 use mathlib.Core.Path.{_≡_, refl, ap, sym, _∙_}
@@ -17,7 +17,6 @@ use Rattle.words.specs.Words.{
   state-words,
   head-numbers,
   burst-numbers,
-  bursts-numbers,
   bus-numbers,
   bank-numbers,
   banks-numbers,

@@ -1,5 +1,5 @@
--- What a state must hold to be read back from its words: four READs, four banks, and 8 or 16 bits where the words are read so.
--- Each state of the code does. Definitions only.
+-- What a state must be to be read back from its words: four READs, four banks, and 8 or 16 bits where the words are read so, as
+-- the code's types have it. Definitions only.
 use Prim.Native.Nat.{_<_}
 use mathlib.Core.Path.{_≡_}
 use lib.ListN.{length}

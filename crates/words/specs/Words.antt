@@ -57,7 +57,7 @@ refreshes-in l =
 unfoldable pub register-in : List ℕ → Register
 register-in l = cond (eqb (number-in l 11) 0) Unloaded (Loaded (middle (number-in l 12)) (clock (number-in l 13)))
 
--- numbers 7 to 13
+-- numbers 7 to 13: the steps of start-up
 unfoldable pub startup-in : List ℕ → StartUp
 startup-in l = record { allclosed = event-in l 7; refreshes = refreshes-in l; register = register-in l }
 
@@ -75,7 +75,7 @@ burst-in l i =
       word = middle (number-in l (i + 8));
     }
 
--- numbers 59 to 61
+-- numbers 59 to 61: the masks, the last record's first
 unfoldable pub masks-in : List ℕ → Masks
 masks-in l = record { first = small (number-in l 59); second = small (number-in l 60); third = small (number-in l 61) }
 
@@ -88,7 +88,7 @@ bus-in l =
       masks = masks-in l;
     }
 
--- numbers 0 to 61
+-- numbers 0 to 61: all but the banks
 unfoldable pub core-in : List ℕ → Core
 core-in l =
     record {
@@ -113,7 +113,7 @@ status-in l i =
 unfoldable pub bank-in : List ℕ → ℕ → Bank
 bank-in l i = record { status = status-in l i; active = event-in l (i + 4); stored = event-in l (i + 6) }
 
--- numbers 62 to 93
+-- numbers 62 to 93: the four banks
 abbrev pub banks-in : List ℕ → List Bank
 banks-in l = bank-in l 62 ∷ bank-in l 70 ∷ bank-in l 78 ∷ bank-in l 86 ∷ []
 
@@ -123,6 +123,7 @@ state-in l = record { core = core-in l; banks = banks-in l }
 
 -- ── The numbers of a state; one that its kind does not use is 0 ──
 
+-- 0 no, 1 yes
 abbrev pub flag-number : Bool → ℕ
 flag-number false = 0
 flag-number true = 1
@@ -135,6 +136,7 @@ abbrev pub event-number : Event → ℕ
 event-number Never = 0
 event-number (On n) = n .0
 
+-- an event's two numbers
 abbrev pub event-numbers : Event → List ℕ
 event-numbers e = event-kind e ∷ event-number e ∷ []
 
@@ -148,6 +150,7 @@ refreshes-number None = 0
 refreshes-number (One n) = n .0
 refreshes-number (Two n) = n .0
 
+-- the two numbers of the refreshes
 abbrev pub refreshes-numbers : Refreshes → List ℕ
 refreshes-numbers x = refreshes-kind x ∷ refreshes-number x ∷ []
 
@@ -163,6 +166,7 @@ abbrev pub register-number : Register → ℕ
 register-number Unloaded = 0
 register-number (Loaded word n) = n .0
 
+-- the three numbers of the mode register
 abbrev pub register-numbers : Register → List ℕ
 register-numbers x = register-kind x ∷ register-word x ∷ register-number x ∷ []
 
@@ -183,6 +187,7 @@ status-time NotStarted = 0
 status-time (Open row n) = 0
 status-time (Closed t) = t .0
 
+-- a status's four numbers
 abbrev pub status-numbers : Status → List ℕ
 status-numbers x = status-kind x ∷ row-of x ∷ status-clock x ∷ status-time x ∷ []
 

@@ -31,6 +31,7 @@ pub fn put(s: State, words: &mut [u64])
     writing::put_banks(words, banks);
 }
 
+// All of its words.
 fn numbers(s: State) -> [u64; 94]
     ensures { λ r. ⌜ r ≡ words-of s ⌝ }
 {

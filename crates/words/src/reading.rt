@@ -15,6 +15,7 @@ use units::Clock;
 use units::Event;
 use units::Ps;
 
+// Number i, or 0 past the end.
 fn number(words: &[u64], i: usize) -> u64
     ensures { λ r. ⌜ r ≡ number-in (now (words .entry)) i ⌝ }
 {
@@ -45,12 +46,14 @@ fn middle(words: &[u64], i: usize) -> u16
     65_535
 }
 
+// 0 is no, any other number yes.
 fn flag(words: &[u64], i: usize) -> bool
     ensures { λ r. ⌜ r ≡ flag (number-in (now (words .entry)) i) ⌝ }
 {
     number(words, i) != 0
 }
 
+// A kind and a clock, from place i on.
 fn event(words: &[u64], i: usize) -> Event
     requires { ⌜ i + 2 ≤ state-words ⌝ }
     ensures { λ r. ⌜ r ≡ event-in (now (words .entry)) i ⌝ }
@@ -167,6 +170,7 @@ pub fn core(words: &[u64]) -> Core
     }
 }
 
+// A kind, the row and the ACTIVE clock of an open bank, and the closing time of a closed one, from place `at` on.
 fn status(words: &[u64], at: usize) -> Status
     requires { ⌜ at + 4 ≤ state-words ⌝ }
     ensures { λ r. ⌜ r ≡ status-in (now (words .entry)) at ⌝ }

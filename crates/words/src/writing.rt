@@ -23,6 +23,7 @@ fn flag_number(x: bool) -> u64
     0
 }
 
+// Its kind and its clock.
 fn event_numbers(e: Event) -> [u64; 2]
     ensures { λ r. ⌜ r ≡ event-numbers e ⌝ }
 {
@@ -32,6 +33,7 @@ fn event_numbers(e: Event) -> [u64; 2]
     }
 }
 
+// How many they are, and the clock of the last.
 fn refreshes_numbers(x: Refreshes) -> [u64; 2]
     ensures { λ r. ⌜ r ≡ refreshes-numbers x ⌝ }
 {
@@ -42,6 +44,7 @@ fn refreshes_numbers(x: Refreshes) -> [u64; 2]
     }
 }
 
+// Its kind, the mode word, and the clock of the LOAD MODE.
 fn register_numbers(x: Register) -> [u64; 3]
     ensures { λ r. ⌜ r ≡ register-numbers x ⌝ }
 {
