@@ -5,3 +5,4 @@ pub mod Calls
 pub mod Walk
 pub mod OneAnswer
 pub mod Monitored
+pub mod MonitorCalls
