@@ -179,7 +179,7 @@ class Paper:
     def facts_run(self, edits):
         """The table of the facts run: each crate, and so many edits of its definitions."""
         start = self.prose.index("## Facts alone")
-        rows = re.findall(r"^\| (\w+) \| (\d+) \|", self.prose[start:], re.M)
+        rows = [(c, n.replace(",", "")) for c, n in re.findall(r"^\| (\w+) \| ([\d,]+) \|", self.prose[start:], re.M)]
         right = {c: sum(e.crate == c for e in edits) for c in facts.crates()}
         self.expect(start, dict(rows) == {c: str(n) for c, n in dict(right, all=len(edits)).items()}, "the edits of each crate are %s" % right)
 

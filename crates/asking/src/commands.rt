@@ -29,39 +29,39 @@ use units::Ps;
 // "That command must stand at 100,000,000 ps or later."
 const POWER_UP: u64 = 100_000_000;
 
-fn ask_precharge(t: SpeedTable, c: Core, all: [Bank; 4], r: Record, n: Clock, now: Ps) -> Verdict
+fn ask_precharge(t: SpeedTable, c: Core, all: [Bank; 4], r: Record, n: Clock, moment: Ps) -> Verdict
     requires { ⌜ Call t c all r × (begun (c .startup) ≡ true) ⌝ }
-    ensures { λ x. ⌜ x ≡ first-broken (command-rules Command.Precharge t (core-module c) (c .period) (found c all n) r n now) ⌝ }
+    ensures { λ x. ⌜ x ≡ first-broken (command-rules Command.Precharge t (core-module c) (c .period) (found c all n) r n moment) ⌝ }
 {
     let startup = c.startup;
-    let any = minima::any_shorts(t, c.period, startup, now);
-    let own = minima::precharge_shorts(t, c.period, r, all, now);
+    let any = minima::any_shorts(t, c.period, startup, moment);
+    let own = minima::precharge_shorts(t, c.period, r, all, moment);
     minima::lowest(minima::either(any, own))
 }
 
-fn ask_refresh(t: SpeedTable, c: Core, all: [Bank; 4], r: Record, n: Clock, now: Ps) -> Verdict
+fn ask_refresh(t: SpeedTable, c: Core, all: [Bank; 4], r: Record, n: Clock, moment: Ps) -> Verdict
     requires { ⌜ Call t c all r × (begun (c .startup) ≡ true) ⌝ }
-    ensures { λ x. ⌜ x ≡ first-broken (command-rules Command.Refresh t (core-module c) (c .period) (found c all n) r n now) ⌝ }
+    ensures { λ x. ⌜ x ≡ first-broken (command-rules Command.Refresh t (core-module c) (c .period) (found c all n) r n moment) ⌝ }
 {
     if banks::all_closed(all) {
         let startup = c.startup;
-        let any = minima::any_shorts(t, c.period, startup, now);
-        let idle = minima::idle_shorts(t, c.period, all, now);
+        let any = minima::any_shorts(t, c.period, startup, moment);
+        let idle = minima::idle_shorts(t, c.period, all, moment);
         return minima::lowest(minima::either(any, idle));
     }
     Verdict::refused(15)
 }
 
-fn ask_load_mode(t: SpeedTable, c: Core, all: [Bank; 4], r: Record, n: Clock, now: Ps) -> Verdict
+fn ask_load_mode(t: SpeedTable, c: Core, all: [Bank; 4], r: Record, n: Clock, moment: Ps) -> Verdict
     requires { ⌜ Call t c all r × (begun (c .startup) ≡ true) ⌝ }
-    ensures { λ x. ⌜ x ≡ first-broken (command-rules Command.LoadMode t (core-module c) (c .period) (found c all n) r n now) ⌝ }
+    ensures { λ x. ⌜ x ≡ first-broken (command-rules Command.LoadMode t (core-module c) (c .period) (found c all n) r n moment) ⌝ }
 {
     let startup = c.startup;
     let refreshes = startup.refreshes;
     if steps::two_done(refreshes) {
         if banks::all_closed(all) {
-            let any = minima::any_shorts(t, c.period, startup, now);
-            let idle = minima::idle_shorts(t, c.period, all, now);
+            let any = minima::any_shorts(t, c.period, startup, moment);
+            let idle = minima::idle_shorts(t, c.period, all, moment);
             let v = minima::lowest(minima::either(any, idle));
             let Verdict::Taken = v else {
                 return v;
@@ -82,19 +82,19 @@ fn ask_begun(
     all: [Bank; 4],
     r: Record,
     n: Clock,
-    now: Ps,
+    moment: Ps,
 ) -> Verdict
     requires { ⌜ Call t c all r × (begun (c .startup) ≡ true) × (code-of k < 3) ⌝ }
-    ensures { λ x. ⌜ x ≡ first-broken (command-rules k t (core-module c) (c .period) (found c all n) r n now) ⌝ }
+    ensures { λ x. ⌜ x ≡ first-broken (command-rules k t (core-module c) (c .period) (found c all n) r n moment) ⌝ }
 {
     let code = layout::code_of(k);
     if code == 2 {
-        return ask_precharge(t, c, all, r, n, now);
+        return ask_precharge(t, c, all, r, n, moment);
     }
     if code == 1 {
-        return ask_refresh(t, c, all, r, n, now);
+        return ask_refresh(t, c, all, r, n, moment);
     }
-    ask_load_mode(t, c, all, r, n, now)
+    ask_load_mode(t, c, all, r, n, moment)
 }
 
 // "Before the first PRECHARGE ALL only NOP and COMMAND INHIBIT are allowed."
@@ -105,13 +105,13 @@ fn ask_first(
     all: [Bank; 4],
     r: Record,
     n: Clock,
-    now: Ps,
+    moment: Ps,
 ) -> Verdict
     requires { ⌜ begun (c .startup) ≡ false ⌝ }
-    ensures { λ x. ⌜ x ≡ first-broken (command-rules k t (core-module c) (c .period) (found c all n) r n now) ⌝ }
+    ensures { λ x. ⌜ x ≡ first-broken (command-rules k t (core-module c) (c .period) (found c all n) r n moment) ⌝ }
 {
     let every = layout::a10(r.addr);
-    if (layout::code_of(k) == 2) & every & (POWER_UP <= now.0) {
+    if (layout::code_of(k) == 2) & every & (POWER_UP <= moment.0) {
         return Verdict::Taken;
     }
     Verdict::refused(14)
@@ -125,16 +125,16 @@ pub fn ask_banks(
     all: [Bank; 4],
     r: Record,
     n: Clock,
-    now: Ps,
+    moment: Ps,
 ) -> Verdict
     requires { ⌜ Call t c all r × (code-of k < 3) ⌝ }
-    ensures { λ x. ⌜ x ≡ first-broken (command-rules k t (core-module c) (c .period) (found c all n) r n now) ⌝ }
+    ensures { λ x. ⌜ x ≡ first-broken (command-rules k t (core-module c) (c .period) (found c all n) r n moment) ⌝ }
 {
     let startup = c.startup;
     if steps::begun(startup) {
-        return ask_begun(k, t, c, all, r, n, now);
+        return ask_begun(k, t, c, all, r, n, moment);
     }
-    ask_first(k, t, c, all, r, n, now)
+    ask_first(k, t, c, all, r, n, moment)
 }
 
 // 14 to 16 of ACTIVE.
@@ -145,18 +145,18 @@ pub fn ask_active(
     all: [Bank; 4],
     r: Record,
     n: Clock,
-    now: Ps,
+    moment: Ps,
 ) -> Verdict
     requires { ⌜ Call t c all r × (own ≡ bank-at all (r .ba)) ⌝ }
-    ensures { λ x. ⌜ x ≡ first-broken (command-rules Command.Active t (core-module c) (c .period) (found c all n) r n now) ⌝ }
+    ensures { λ x. ⌜ x ≡ first-broken (command-rules Command.Active t (core-module c) (c .period) (found c all n) r n moment) ⌝ }
 {
     let startup = c.startup;
     if steps::begun(startup) {
         if steps::started(startup) {
             let status = own.status;
             if banks::is_closed(status) {
-                let any = minima::any_shorts(t, c.period, startup, now);
-                let others = minima::active_shorts(t, c.period, r.ba, own, all, now);
+                let any = minima::any_shorts(t, c.period, startup, moment);
+                let others = minima::active_shorts(t, c.period, r.ba, own, all, moment);
                 return minima::lowest(minima::either(any, others));
             }
             return Verdict::refused(15);
@@ -174,10 +174,10 @@ pub fn ask_burst(
     all: [Bank; 4],
     r: Record,
     n: Clock,
-    now: Ps,
+    moment: Ps,
 ) -> Verdict
     requires { ⌜ Call t c all r × (own ≡ bank-at all (r .ba)) × (3 < code-of k) × (code-of k < 7) × (n .0 ≤ clock-max) ⌝ }
-    ensures { λ x. ⌜ x ≡ first-broken (command-rules k t (core-module c) (c .period) (found c all n) r n now) ⌝ }
+    ensures { λ x. ⌜ x ≡ first-broken (command-rules k t (core-module c) (c .period) (found c all n) r n moment) ⌝ }
 {
     let startup = c.startup;
     let status = own.status;
@@ -185,8 +185,8 @@ pub fn ask_burst(
     if steps::begun(startup) {
         if steps::started(startup) {
             if !access | banks::is_open(status) {
-                let any = minima::any_shorts(t, c.period, startup, now);
-                let rcd = minima::access_shorts(access, t, c.period, own, now);
+                let any = minima::any_shorts(t, c.period, startup, moment);
+                let rcd = minima::access_shorts(access, t, c.period, own, moment);
                 let v = minima::lowest(minima::either(any, rcd));
                 let Verdict::Taken = v else {
                     return v;

@@ -25,10 +25,10 @@ pub fn ask_moment(
     refreshes: Refreshes,
     r: Record,
     n: Clock,
-    now: Ps,
+    moment: Ps,
 ) -> Verdict
     requires { ⌜ FitPeriod period × FitEvent (last-refresh refreshes) ⌝ }
-    ensures { λ x. ⌜ x ≡ first-broken (moment-rules t period refreshes r n now) ⌝ }
+    ensures { λ x. ⌜ x ≡ first-broken (moment-rules t period refreshes r n moment) ⌝ }
 {
     if r.zeros != 0 {
         return Verdict::refused(10);
@@ -40,20 +40,20 @@ pub fn ask_moment(
         return Verdict::refused(11);
     }
     let refresh = steps::counted_refresh(refreshes);
-    if maxima::within(period, t.interval, now, refresh) {
+    if maxima::within(period, t.interval, moment, refresh) {
         return Verdict::Taken;
     }
     Verdict::refused(12)
 }
 
 // A bank's row is not "open longer than tRAS max".
-pub fn open_within(period: Ps, max: Ps, now: Ps, x: Status) -> bool
+pub fn open_within(period: Ps, max: Ps, moment: Ps, x: Status) -> bool
     requires { ⌜ FitPeriod period × FitStatus x ⌝ }
-    ensures { λ r. ⌜ r ≡ open-within period max now x ⌝ }
+    ensures { λ r. ⌜ r ≡ open-within period max moment x ⌝ }
 {
     match x {
         Status::NotStarted => true,
-        Status::Open { row: _, active } => time::at(period, active).within(max, now),
+        Status::Open { row: _, active } => time::at(period, active).within(max, moment),
         Status::Closed { closing: _ } => true,
     }
 }

@@ -13,13 +13,13 @@ use units::Ps;
 use units::time;
 
 // A maximum since an event is not passed; "no maximum is passed" where the event is ahead.
-pub fn within(period: Ps, max: Ps, now: Ps, event: Event) -> bool
+pub fn within(period: Ps, max: Ps, moment: Ps, event: Event) -> bool
     requires { ⌜ FitPeriod period × FitEvent event ⌝ }
-    ensures { λ r. ⌜ r ≡ within period max now event ⌝ }
+    ensures { λ r. ⌜ r ≡ within period max moment event ⌝ }
 {
     match event {
         Event::Never => true,
-        Event::On(n) => time::at(period, n).within(max, now),
+        Event::On(n) => time::at(period, n).within(max, moment),
     }
 }
 

@@ -91,9 +91,9 @@ pub fn lowest(s: Shorts) -> Verdict
 }
 
 // "Any executable command: tRFC since the last refresh, tMRD since the last mode load, tRP since the last PRECHARGE ALL."
-pub fn any_shorts(t: SpeedTable, period: Ps, u: StartUp, now: Ps) -> Shorts
+pub fn any_shorts(t: SpeedTable, period: Ps, u: StartUp, moment: Ps) -> Shorts
     requires { ⌜ FitPeriod period × FitStartUp u × Bounds t ⌝ }
-    ensures { λ r. ⌜ r ≡ shorts t period now (of-any period u) ⌝ }
+    ensures { λ r. ⌜ r ≡ shorts t period moment (of-any period u) ⌝ }
 {
     let all = u.allclosed;
     let refreshes = u.refreshes;
@@ -105,40 +105,40 @@ pub fn any_shorts(t: SpeedTable, period: Ps, u: StartUp, now: Ps) -> Shorts
         rcd: false,
         ras: false,
         rc: false,
-        rp: since::short_since(period, all, t.trp, now),
+        rp: since::short_since(period, all, t.trp, moment),
         rrd: false,
-        rfc: since::short_since(period, refresh, t.trfc, now),
+        rfc: since::short_since(period, refresh, t.trfc, moment),
         wr: false,
-        mrd: since::short_since(period, load, mrd, now),
+        mrd: since::short_since(period, load, mrd, moment),
     }
 }
 
 // tRRD since the last ACTIVE of bank i, where that is another bank than `ba`.
-fn short_other(period: Ps, ba: u8, i: u8, b: Bank, min: Ps, now: Ps) -> bool
+fn short_other(period: Ps, ba: u8, i: u8, b: Bank, min: Ps, moment: Ps) -> bool
     requires { ⌜ FitPeriod period × FitBank b × FitSpan min ⌝ }
-    ensures { λ r. ⌜ r ≡ short-other period ba i b min now ⌝ }
+    ensures { λ r. ⌜ r ≡ short-other period ba i b min moment ⌝ }
 {
     if i == ba {
         return false;
     }
     let active = b.active;
-    since::short_since(period, active, min, now)
+    since::short_since(period, active, min, moment)
 }
 
-pub fn short_others(period: Ps, ba: u8, banks: [Bank; 4], min: Ps, now: Ps) -> bool
+pub fn short_others(period: Ps, ba: u8, banks: [Bank; 4], min: Ps, moment: Ps) -> bool
     requires { ⌜ FitPeriod period × BanksFit banks × FitSpan min ⌝ }
-    ensures { λ r. ⌜ r ≡ short-others period ba banks min now ⌝ }
+    ensures { λ r. ⌜ r ≡ short-others period ba banks min moment ⌝ }
 {
-    if short_other(period, ba, 0, banks[0], min, now) {
+    if short_other(period, ba, 0, banks[0], min, moment) {
         return true;
     }
-    if short_other(period, ba, 1, banks[1], min, now) {
+    if short_other(period, ba, 1, banks[1], min, moment) {
         return true;
     }
-    if short_other(period, ba, 2, banks[2], min, now) {
+    if short_other(period, ba, 2, banks[2], min, moment) {
         return true;
     }
-    short_other(period, ba, 3, banks[3], min, now)
+    short_other(period, ba, 3, banks[3], min, moment)
 }
 
 // "ACTIVE: tRP since its closing; tRC since its last ACTIVE; tRRD since the last ACTIVE of another bank."
@@ -148,19 +148,19 @@ pub fn active_shorts(
     ba: u8,
     own: Bank,
     banks: [Bank; 4],
-    now: Ps,
+    moment: Ps,
 ) -> Shorts
     requires { ⌜ FitPeriod period × BanksFit banks × (own ≡ bank-at banks ba) × Bounds t ⌝ }
-    ensures { λ r. ⌜ r ≡ shorts t period now (of-active period ba banks) ⌝ }
+    ensures { λ r. ⌜ r ≡ shorts t period moment (of-active period ba banks) ⌝ }
 {
     let status = own.status;
     let active = own.active;
     Shorts {
         rcd: false,
         ras: false,
-        rc: since::short_since(period, active, t.trc, now),
-        rp: since::short_closed(status, t.trp, now),
-        rrd: short_others(period, ba, banks, t.trrd, now),
+        rc: since::short_since(period, active, t.trc, moment),
+        rp: since::short_closed(status, t.trp, moment),
+        rrd: short_others(period, ba, banks, t.trrd, moment),
         rfc: false,
         wr: false,
         mrd: false,
@@ -168,13 +168,13 @@ pub fn active_shorts(
 }
 
 // "READ, WRITE: tRCD since its ACTIVE", where the command is one of these.
-pub fn access_shorts(access: bool, t: SpeedTable, period: Ps, b: Bank, now: Ps) -> Shorts
+pub fn access_shorts(access: bool, t: SpeedTable, period: Ps, b: Bank, moment: Ps) -> Shorts
     requires { ⌜ FitPeriod period × FitBank b × Bounds t ⌝ }
-    ensures { λ r. ⌜ r ≡ shorts t period now (only access (of-access period b)) ⌝ }
+    ensures { λ r. ⌜ r ≡ shorts t period moment (only access (of-access period b)) ⌝ }
 {
     let status = b.status;
     Shorts {
-        rcd: access & since::short_opened(period, status, t.trcd, now),
+        rcd: access & since::short_opened(period, status, t.trcd, moment),
         ras: false,
         rc: false,
         rp: false,
@@ -186,78 +186,84 @@ pub fn access_shorts(access: bool, t: SpeedTable, period: Ps, b: Bank, now: Ps) 
 }
 
 // "An open bank needs tRAS min, and tWR since the last clock on which a byte was stored in it"; a closed one tRP.
-pub fn precharged_shorts(t: SpeedTable, period: Ps, b: Bank, now: Ps) -> Shorts
+pub fn precharged_shorts(t: SpeedTable, period: Ps, b: Bank, moment: Ps) -> Shorts
     requires { ⌜ FitPeriod period × FitBank b × Bounds t ⌝ }
-    ensures { λ r. ⌜ r ≡ shorts t period now (of-precharged period b) ⌝ }
+    ensures { λ r. ⌜ r ≡ shorts t period moment (of-precharged period b) ⌝ }
 {
     let status = b.status;
     let stored = b.stored;
     Shorts {
         rcd: false,
-        ras: since::short_opened(period, status, t.trasmin, now),
+        ras: since::short_opened(period, status, t.trasmin, moment),
         rc: false,
-        rp: since::short_closed(status, t.trp, now),
+        rp: since::short_closed(status, t.trp, moment),
         rrd: false,
         rfc: false,
-        wr: since::short_stored(period, status, stored, t.twr, now),
+        wr: since::short_stored(period, status, stored, t.twr, moment),
         mrd: false,
     }
 }
 
 // Bank i, where the PRECHARGE is for it.
-pub fn covered_shorts(t: SpeedTable, period: Ps, r: Record, i: u8, b: Bank, now: Ps) -> Shorts
+pub fn covered_shorts(t: SpeedTable, period: Ps, r: Record, i: u8, b: Bank, moment: Ps) -> Shorts
     requires { ⌜ FitPeriod period × FitBank b × Bounds t ⌝ }
-    ensures { λ x. ⌜ x ≡ shorts t period now (of-covered period r i b) ⌝ }
+    ensures { λ x. ⌜ x ≡ shorts t period moment (of-covered period r i b) ⌝ }
 {
     if layout::covers(r.addr, r.ba, i) {
-        precharged_shorts(t, period, b, now)
+        precharged_shorts(t, period, b, moment)
     } else {
         no_shorts()
     }
 }
 
 // "PRECHARGE, one bank or (A10 HIGH) each of the four."
-pub fn precharge_shorts(t: SpeedTable, period: Ps, r: Record, banks: [Bank; 4], now: Ps) -> Shorts
+pub fn precharge_shorts(
+    t: SpeedTable,
+    period: Ps,
+    r: Record,
+    banks: [Bank; 4],
+    moment: Ps,
+) -> Shorts
     requires { ⌜ FitPeriod period × BanksFit banks × Bounds t ⌝ }
-    ensures { λ x. ⌜ x ≡ shorts t period now (of-precharge period r banks) ⌝ }
+    ensures { λ x. ⌜ x ≡ shorts t period moment (of-precharge period r banks) ⌝ }
 {
-    let a = covered_shorts(t, period, r, 0, banks[0], now);
-    let b = covered_shorts(t, period, r, 1, banks[1], now);
-    let c = covered_shorts(t, period, r, 2, banks[2], now);
-    let d = covered_shorts(t, period, r, 3, banks[3], now);
+    let a = covered_shorts(t, period, r, 0, banks[0], moment);
+    let b = covered_shorts(t, period, r, 1, banks[1], moment);
+    let c = covered_shorts(t, period, r, 2, banks[2], moment);
+    let d = covered_shorts(t, period, r, 3, banks[3], moment);
     either(a, either(b, either(c, d)))
 }
 
 // tRP since a bank's closing.
-fn short_closing(b: Bank, min: Ps, now: Ps) -> bool
+fn short_closing(b: Bank, min: Ps, moment: Ps) -> bool
     requires { ⌜ FitBank b × FitSpan min ⌝ }
-    ensures { λ r. ⌜ r ≡ short-closed (b .status) min now ⌝ }
+    ensures { λ r. ⌜ r ≡ short-closed (b .status) min moment ⌝ }
 {
     let status = b.status;
-    since::short_closed(status, min, now)
+    since::short_closed(status, min, moment)
 }
 
-pub fn short_closings(banks: [Bank; 4], min: Ps, now: Ps) -> bool
+pub fn short_closings(banks: [Bank; 4], min: Ps, moment: Ps) -> bool
     requires { ⌜ BanksFit banks × FitSpan min ⌝ }
-    ensures { λ r. ⌜ r ≡ short-closings banks min now ⌝ }
+    ensures { λ r. ⌜ r ≡ short-closings banks min moment ⌝ }
 {
-    let a = short_closing(banks[0], min, now);
-    let b = short_closing(banks[1], min, now);
-    let c = short_closing(banks[2], min, now);
-    let d = short_closing(banks[3], min, now);
+    let a = short_closing(banks[0], min, moment);
+    let b = short_closing(banks[1], min, moment);
+    let c = short_closing(banks[2], min, moment);
+    let d = short_closing(banks[3], min, moment);
     a | (b | (c | d))
 }
 
 // "AUTO REFRESH, LOAD MODE: .. tRP since each closing."
-pub fn idle_shorts(t: SpeedTable, period: Ps, banks: [Bank; 4], now: Ps) -> Shorts
+pub fn idle_shorts(t: SpeedTable, period: Ps, banks: [Bank; 4], moment: Ps) -> Shorts
     requires { ⌜ BanksFit banks × Bounds t ⌝ }
-    ensures { λ r. ⌜ r ≡ shorts t period now (of-idle banks) ⌝ }
+    ensures { λ r. ⌜ r ≡ shorts t period moment (of-idle banks) ⌝ }
 {
     Shorts {
         rcd: false,
         ras: false,
         rc: false,
-        rp: short_closings(banks, t.trp, now),
+        rp: short_closings(banks, t.trp, moment),
         rrd: false,
         rfc: false,
         wr: false,

@@ -95,9 +95,9 @@ impl Burst {
     pub fn cut_if(self, f: bool, n: Clock) -> Burst
         ensures { λ r. ⌜ r ≡ cut-if f n self ⌝ }
     {
-        let held = self.cut;
+        let own = self.cut;
         let start = self.start;
-        let cut = cut_on(f & self.live, start, n, held);
+        let cut = cut_on(f & self.live, start, n, own);
         Burst {
             live: self.live,
             auto: self.auto,

@@ -68,19 +68,19 @@ pub fn bus_after(k: Command, r: Record, n: Clock, word: u16, row: u16, u: Bus) -
 // the record's own masks, a READ's on those of two clocks before.
 pub fn beat_on(
     last: Event,
-    held: Masks,
+    old: Masks,
     write: Burst,
     reads: [Burst; 4],
     masks: u8,
     n: Clock,
 ) -> Beat
-    ensures { λ r. ⌜ r ≡ beat-on last held write reads masks n ⌝ }
+    ensures { λ r. ⌜ r ≡ beat-on last old write reads masks n ⌝ }
 {
     let stored = write.write_beat(masks, n);
     let Beat::Quiet = stored else {
         return stored;
     };
-    reads_beat(last, held, reads, n)
+    reads_beat(last, old, reads, n)
 }
 
 // Number 19: no auto precharge burst is unfinished on clock n. A WRITE with M9 = 1 has length 1; the length
@@ -106,11 +106,11 @@ pub fn one_before(n: Clock) -> Clock
 
 // Number 20: no lane "would be driven on its clock, or is driven one clock before" (004's extra clock form). The masks of
 // both clocks come first: where they are all HIGH no READ drives a lane, and none is looked at.
-pub fn bus_clear(last: Event, held: Masks, reads: [Burst; 4], n: Clock) -> bool
-    ensures { λ r. ⌜ r ≡ bus-clear last held reads n ⌝ }
+pub fn bus_clear(last: Event, old: Masks, reads: [Burst; 4], n: Clock) -> bool
+    ensures { λ r. ⌜ r ≡ bus-clear last old reads n ⌝ }
 {
-    let now = masks_on(last, held, two_before(n));
+    let here = masks_on(last, old, two_before(n));
     let m = one_before(n);
-    let before = masks_on(last, held, two_before(m));
-    reads_clear(reads, now != ALL_HIGH, before != ALL_HIGH, n, m)
+    let before = masks_on(last, old, two_before(m));
+    reads_clear(reads, here != ALL_HIGH, before != ALL_HIGH, n, m)
 }

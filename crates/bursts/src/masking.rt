@@ -20,8 +20,8 @@ pub fn two_before(n: Clock) -> Clock
 
 // The masks on clock m, where the last record stood on clock `last`: what is past it, or too far back, was skipped or
 // is not held.
-pub fn masks_on(last: Event, held: Masks, m: Clock) -> u8
-    ensures { λ r. ⌜ r ≡ masks-on last held m ⌝ }
+pub fn masks_on(last: Event, old: Masks, m: Clock) -> u8
+    ensures { λ r. ⌜ r ≡ masks-on last old m ⌝ }
 {
     match last {
         Event::Never => ALL_HIGH,
@@ -29,7 +29,7 @@ pub fn masks_on(last: Event, held: Masks, m: Clock) -> u8
             if x.0 < m.0 {
                 ALL_HIGH
             } else {
-                held.ago(x.0 - m.0)
+                old.ago(x.0 - m.0)
             }
         }
     }

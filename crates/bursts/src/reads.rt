@@ -65,8 +65,8 @@ fn latest(a: bool, b: bool, c: bool, d: bool, w: u64, x: u64, y: u64, z: u64) ->
 
 // The beat of the READ bursts on clock n: of those that run, the one registered last. Most records find none that runs, and
 // the masks of two clocks before are looked up only where one does.
-pub fn reads_beat(last: Event, held: Masks, bs: [Burst; 4], n: Clock) -> Beat
-    ensures { λ r. ⌜ r ≡ reads-beat bs (masks-on last held (two-before n)) n ⌝ }
+pub fn reads_beat(last: Event, old: Masks, bs: [Burst; 4], n: Clock) -> Beat
+    ensures { λ r. ⌜ r ≡ reads-beat bs (masks-on last old (two-before n)) n ⌝ }
 {
     let a = bs[0].reads_on(n);
     let b = bs[1].reads_on(n);
@@ -85,7 +85,7 @@ pub fn reads_beat(last: Event, held: Masks, bs: [Burst; 4], n: Clock) -> Beat
         bs[2].start.0,
         bs[3].start.0,
     );
-    let masks = masks_on(last, held, two_before(n));
+    let masks = masks_on(last, old, two_before(n));
     if i == 0 {
         return bs[0].read_beat(masks, n);
     }

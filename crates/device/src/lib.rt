@@ -7,7 +7,7 @@ use rules::Verdict;
 
 mod admitting;
 mod engine;
-pub mod entry;
+mod entry;
 mod many;
 pub mod reporting;
 mod single;

@@ -60,12 +60,10 @@ use Rattle.hawsehole.specs.Monitor.{
   grade-rules,
   start-rules,
   Started,
-  started,
   start-call,
   monitor-rules,
   ask-words,
   Monitored,
-  monitored,
   take-words,
 }
 
@@ -84,15 +82,19 @@ words-with first a b c =
 abbrev start-of : ℕ → List ℕ
 start-of number = words-with (7500 ∷ 2 ∷ 1 ∷ 7 ∷ number ∷ 0 ∷ 0 ∷ []) 255 255 255
 
+-- what starting leaves
+abbrev begun : ℕ → List ℕ → Started
+begun number words = record { number = number; words = words }
+
 -- refused with this number, and nothing written
 abbrev unwritten : ℕ → ℕ → ℕ → ℕ → ℕ → ℕ → Row Started
-unwritten words period grade bank row number = start-call (replicate words 9) period grade bank row gives started number (replicate words 9)
+unwritten words period grade bank row number = start-call (replicate words 9) period grade bank row gives begun number (replicate words 9)
 
 abbrev starts : List (Row Started)
 starts =
     -- "answers 0 and writes every word"
-    start-call (replicate 94 9) 7500 2 1 7 gives started 0 (start-of 0)
-    ∷ start-call (replicate 94 9) 65_535 1 3 8191 gives started 0 (words-with (65_535 ∷ 1 ∷ 3 ∷ 8191 ∷ 0 ∷ 0 ∷ 0 ∷ []) 255 255 255)
+    start-call (replicate 94 9) 7500 2 1 7 gives begun 0 (start-of 0)
+    ∷ start-call (replicate 94 9) 65_535 1 3 8191 gives begun 0 (words-with (65_535 ∷ 1 ∷ 3 ∷ 8191 ∷ 0 ∷ 0 ∷ 0 ∷ []) 255 255 255)
     -- 3, 4 and 25 in this order: all faults at once, mended one by one
     ∷ unwritten 93 999 3 4 8192 3
     ∷ unwritten 93 65_536 3 4 8192 3
@@ -127,6 +129,21 @@ unfit = table 10_000 7_500 44_000 120_000_000 66_000 20_000 20_000 15_000 66_000
 abbrev asked : SpeedTable → List ℕ → List ℕ → ℕ → ℕ → Row ℕ
 asked t words bytes lent word = ask-words (with-table t) words bytes (replicate lent 7) gives word
 
+-- past start-up: PRECHARGE ALL on clock 0, the second refresh on 10, LOAD MODE of 0x30 on 20; bank 1 has row 7 open since clock 30
+abbrev opened : ℕ → ℕ → List ℕ → List ℕ → List ℕ → List ℕ
+opened number last write masks stored =
+    (7500 ∷ 2 ∷ 1 ∷ 7 ∷ number ∷ 1 ∷ last ∷ 1 ∷ 0 ∷ 2 ∷ 10 ∷ 1 ∷ 0x30 ∷ 20 ∷ [])
+    ++ write ++ no-burst ++ no-burst ++ no-burst ++ no-burst ++ masks
+    ++ replicate 8 0 ++ (1 ∷ 7 ∷ 30 ∷ 0 ∷ 1 ∷ 30 ∷ []) ++ stored ++ replicate 16 0
+
+-- with this clock of the last record
+abbrev open-after : ℕ → List ℕ
+open-after last = opened 5 last no-burst (1 ∷ 2 ∷ 3 ∷ []) (0 ∷ 0 ∷ [])
+
+-- a WRITE of bank 1, column 5, lane 0
+abbrev write-1 : List ℕ
+write-1 = 0 ∷ 0 ∷ 0 ∷ 0xa2 ∷ 0 ∷ 0x5f ∷ 0xe0 ∷ 0 ∷ 1 ∷ 2 ∷ 3 ∷ 4 ∷ 5 ∷ 6 ∷ 7 ∷ 8 ∷ []
+
 -- one word of the start in another way
 abbrev other : ℕ → ℕ → List ℕ
 other place word = set (start-of 5) place word
@@ -138,6 +155,9 @@ asks =
     ∷ asked grade-133 (start-of 5) nop 16384 (5 * 65_536)
     ∷ asked grade-133 (start-of 5) active-1 16384 (5 * 65_536 + 14)
     ∷ asked grade-133 (start-of (2 ^ 24 + 3)) nop 16384 (3 * 65_536)
+    ∷ asked grade-133 (open-after 33) write-1 16384 (5 * 65_536)
+    -- 16, interval 1: the second clock after its ACTIVE
+    ∷ asked grade-133 (open-after 31) write-1 16384 (5 * 65_536 + 1 * 256 + 16)
     -- 1, 25 for the number of words, 3, 4, 6, 7 and 25 in this order
     ∷ asked unfit (replicate 93 0) (replicate 15 0) 16383 1
     ∷ asked unfit (replicate 93 0) (replicate 17 0) 16383 1
@@ -166,6 +186,10 @@ asks =
 
 -- ── Taking ──
 
+-- what taking leaves
+abbrev leaves : ℕ → List ℕ → List ℕ → List ℕ → Monitored
+leaves word words page beat = record { word = word; words = words; page = page; beat = beat }
+
 abbrev takes : List ℕ → List ℕ → List ℕ → Monitored
 takes words bytes beat = take-words (with-table grade-133) words bytes (replicate 16384 7) beat
 
@@ -176,17 +200,22 @@ after-nop = words-with (7500 ∷ 2 ∷ 1 ∷ 7 ∷ 6 ∷ 1 ∷ 0 ∷ []) 0 255 2
 abbrev taken : List (Row Monitored)
 taken =
     -- the next state's words; "a taken record's two beat words go to `beat` as far as it has room"
-    takes (start-of 5) nop (9 ∷ 9 ∷ 9 ∷ []) gives monitored (5 * 65_536) after-nop (replicate 16384 7) (0 ∷ 0 ∷ 9 ∷ [])
-    ∷ takes (start-of 5) nop (9 ∷ []) gives monitored (5 * 65_536) after-nop (replicate 16384 7) (0 ∷ [])
-    ∷ takes (start-of 5) nop [] gives monitored (5 * 65_536) after-nop (replicate 16384 7) []
+    takes (start-of 5) nop (9 ∷ 9 ∷ 9 ∷ []) gives leaves (5 * 65_536) after-nop (replicate 16384 7) (0 ∷ 0 ∷ 9 ∷ [])
+    ∷ takes (start-of 5) nop (9 ∷ []) gives leaves (5 * 65_536) after-nop (replicate 16384 7) (0 ∷ [])
+    ∷ takes (start-of 5) nop [] gives leaves (5 * 65_536) after-nop (replicate 16384 7) []
     -- the second stands on clock 1
-    ∷ takes after-nop nop (9 ∷ 9 ∷ []) gives monitored (6 * 65_536)
+    ∷ takes after-nop nop (9 ∷ 9 ∷ []) gives leaves (6 * 65_536)
     (words-with (7500 ∷ 2 ∷ 1 ∷ 7 ∷ 7 ∷ 1 ∷ 1 ∷ []) 0 0 255) (replicate 16384 7) (0 ∷ 1 ∷ [])
+    -- a WRITE: its burst, the bank's store, the byte in the page, its beat on clock 34
+    ∷ takes (open-after 33) write-1 (9 ∷ 9 ∷ []) gives leaves (5 * 65_536)
+    (opened 6 34 (1 ∷ 0 ∷ 1 ∷ 7 ∷ 5 ∷ 34 ∷ 0 ∷ 0 ∷ 0x30 ∷ []) (0xfe ∷ 1 ∷ 2 ∷ []) (1 ∷ 34 ∷ [])) (set (replicate 16384 7) 40 8)
+    ((2 * 2 ^ 48 + 1 * 2 ^ 40 + 7 * 2 ^ 24 + 5 * 2 ^ 8 + 1) ∷ 34 ∷ [])
     -- what asking refuses leaves words, page and beat
-    ∷ takes (start-of 5) active-1 (9 ∷ 9 ∷ []) gives monitored (5 * 65_536 + 14) (start-of 5) (replicate 16384 7) (9 ∷ 9 ∷ [])
-    ∷ takes (other 6 1) nop (9 ∷ 9 ∷ []) gives monitored 25 (other 6 1) (replicate 16384 7) (9 ∷ 9 ∷ [])
-    ∷ takes (replicate 93 0) nop (9 ∷ 9 ∷ []) gives monitored 25 (replicate 93 0) (replicate 16384 7) (9 ∷ 9 ∷ [])
-    ∷ takes (start-of 5) (replicate 15 0) (9 ∷ []) gives monitored 1 (start-of 5) (replicate 16384 7) (9 ∷ [])
+    ∷ takes (open-after 31) write-1 (9 ∷ 9 ∷ []) gives leaves (5 * 65_536 + 1 * 256 + 16) (open-after 31) (replicate 16384 7) (9 ∷ 9 ∷ [])
+    ∷ takes (start-of 5) active-1 (9 ∷ 9 ∷ []) gives leaves (5 * 65_536 + 14) (start-of 5) (replicate 16384 7) (9 ∷ 9 ∷ [])
+    ∷ takes (other 6 1) nop (9 ∷ 9 ∷ []) gives leaves 25 (other 6 1) (replicate 16384 7) (9 ∷ 9 ∷ [])
+    ∷ takes (replicate 93 0) nop (9 ∷ 9 ∷ []) gives leaves 25 (replicate 93 0) (replicate 16384 7) (9 ∷ 9 ∷ [])
+    ∷ takes (start-of 5) (replicate 15 0) (9 ∷ []) gives leaves 1 (start-of 5) (replicate 16384 7) (9 ∷ [])
     ∷ []
 
 pub monitor-right : (found starts ≡ expected starts) × (found asks ≡ expected asks) × (found taken ≡ expected taken)

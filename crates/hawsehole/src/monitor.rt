@@ -1,15 +1,15 @@
 // For the live monitor, which is C: one record asked, or taken, from a state that is lent as words.
 ghost use mathlib.Core.Path.{_≡_};
-ghost use lib.ListN.{length};
+ghost use mathlib.Core.Bool.{cond};
+ghost use lib.Dec.{eqb, ltb};
 ghost use Rattle.speed.specs.Table.{table};
 ghost use Rattle.rules.specs.Numbers.{first-broken};
 ghost use Rattle.hawsehole.specs.Numbers.{with-table};
 ghost use Rattle.hawsehole.specs.Walk.{last-clock};
-ghost use Rattle.hawsehole.specs.Monitor.{place-rules, grade-rules, start-rules, started, start-call, monitor-rules, ask-words, monitored, take-words};
+ghost use Rattle.hawsehole.specs.Monitor.{place-rules, grade-rules, start-rules, started, start-call, ask-words, monitored, take-words};
 use crate::setup_of;
 use crate::word_of;
 use device::Device;
-use device::entry;
 use device::reporting;
 use rules::Setup;
 use rules::Verdict;
@@ -79,37 +79,36 @@ pub extern "C" fn hawsehole_start(
     0
 }
 
-// 1, 25 for a wrong number of words, 3, 4, 6, 7, and 25.
-fn monitor_verdict(u: Setup, state: &[u64], bytes: usize, lent: usize) -> Verdict
-    ensures { λ x. ⌜ x ≡ first-broken (monitor-rules u (now (state .entry)) bytes lent) ⌝ }
+// The answer where the words hold no state, by what asking says of the one that they are read as: 3, 4, 6 and 7 come before 25, and
+// all else after it.
+fn unheld(number: u8) -> u64
+    ensures { λ r. ⌜ r ≡ cond (eqb number 0) 25 (cond (ltb number 8) number 25) ⌝ }
 {
-    if bytes != 16 {
-        return Verdict::refused(1);
+    if number == 0 {
+        return 25;
     }
-    if state.len() != WORDS {
-        return Verdict::refused(25);
+    if number < 8 {
+        return number as u64;
     }
-    let v = entry::state_verdict(u, words::state(state), lent);
-    let Verdict::Taken = v else {
-        return v;
-    };
-    if words::holds(state) {
-        return Verdict::Taken;
-    }
-    Verdict::refused(25)
+    25
 }
 
-// May this record stand next?
+// May this record stand next? What is tried before the record is looked at stands in one place, behind `Device::ask`.
 fn ask(u: Setup, state: &[u64], bytes: &[u8], page: &[u8]) -> u64
     ensures { λ r. ⌜ r ≡ ask-words u (now (state .entry)) (now (bytes .entry)) (now (page .entry)) ⌝ }
 {
-    let v = monitor_verdict(u, state, bytes.len(), page.len());
-    let Verdict::Taken = v else {
-        return word_of(v.number(), v.interval(), 0);
-    };
+    if bytes.len() != 16 {
+        return 1;
+    }
+    if state.len() != WORDS {
+        return 25;
+    }
     let d = Device(words::state(state));
     let a = d.ask(u, bytes, page);
-    word_of(a.number, a.interval, a.reported)
+    if words::holds(state) {
+        return word_of(a.number, a.interval, a.reported);
+    }
+    unheld(a.number)
 }
 
 // The clock of the last record taken.

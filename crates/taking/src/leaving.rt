@@ -79,10 +79,10 @@ pub fn startup_after(k: Command, r: Record, n: Clock, u: StartUp) -> StartUp
     let every = layout::a10(r.addr);
     let all = u.allclosed;
     let old = u.refreshes;
-    let held = u.register;
+    let loaded = u.register;
     let allclosed = event_if((code == 2) & every, n, all);
     let refreshes = refreshes_if(code == 1, n, old);
-    let register = register_if(code == 0, r.addr, n, held);
+    let register = register_if(code == 0, r.addr, n, loaded);
     StartUp {
         allclosed,
         refreshes,
@@ -103,17 +103,17 @@ fn with_status(x: Status, b: Bank) -> Bank
 }
 
 // "It closes now. A closed bank .. keeps that closing time"; the first PRECHARGE ALL closes whatever it finds.
-fn precharged(again: bool, now: Ps, x: Status) -> Status
-    ensures { λ r. ⌜ r ≡ precharged again now x ⌝ }
+fn precharged(again: bool, moment: Ps, x: Status) -> Status
+    ensures { λ r. ⌜ r ≡ precharged again moment x ⌝ }
 {
     match x {
-        Status::NotStarted => Status::Closed { closing: now },
-        Status::Open { row: _, active: _ } => Status::Closed { closing: now },
+        Status::NotStarted => Status::Closed { closing: moment },
+        Status::Open { row: _, active: _ } => Status::Closed { closing: moment },
         Status::Closed { closing } => {
             if again {
                 Status::Closed { closing }
             } else {
-                Status::Closed { closing: now }
+                Status::Closed { closing: moment }
             }
         }
     }
@@ -156,12 +156,12 @@ fn bank_after(
     again: bool,
     r: Record,
     n: Clock,
-    now: Ps,
+    moment: Ps,
     i: u8,
     b: Bank,
 ) -> Bank
     requires { ⌜ Bounds t × FitPeriod period × FitBank b ⌝ }
-    ensures { λ x. ⌜ x ≡ bank-after k t period end again r n now i b ⌝ }
+    ensures { λ x. ⌜ x ≡ bank-after k t period end again r n moment i b ⌝ }
 {
     let code = layout::code_of(k);
     let own = i == r.ba;
@@ -174,7 +174,7 @@ fn bank_after(
     }
     let covered = layout::covers(r.addr, r.ba, i);
     if (code == 2) & covered {
-        return with_status(precharged(again, now, status), b);
+        return with_status(precharged(again, moment, status), b);
     }
     b
 }
@@ -196,17 +196,17 @@ fn commanded(
     again: bool,
     r: Record,
     n: Clock,
-    now: Ps,
+    moment: Ps,
     all: [Bank; 4],
 ) -> [Bank; 4]
     requires { ⌜ Bounds t × FitPeriod period × BanksFit all ⌝ }
-    ensures { λ x. ⌜ x ≡ commanded k t period end again r n now all ⌝ }
+    ensures { λ x. ⌜ x ≡ commanded k t period end again r n moment all ⌝ }
 {
     if touches(k, r) {
-        let a = bank_after(k, t, period, end, again, r, n, now, 0, all[0]);
-        let b = bank_after(k, t, period, end, again, r, n, now, 1, all[1]);
-        let c = bank_after(k, t, period, end, again, r, n, now, 2, all[2]);
-        let d = bank_after(k, t, period, end, again, r, n, now, 3, all[3]);
+        let a = bank_after(k, t, period, end, again, r, n, moment, 0, all[0]);
+        let b = bank_after(k, t, period, end, again, r, n, moment, 1, all[1]);
+        let c = bank_after(k, t, period, end, again, r, n, moment, 2, all[2]);
+        let d = bank_after(k, t, period, end, again, r, n, moment, 3, all[3]);
         return [a, b, c, d];
     }
     all
@@ -256,10 +256,10 @@ pub fn banks_moved(
 {
     let register = startup.register;
     let word = steps::word_in(register);
-    let now = time::at(period, n);
+    let moment = time::at(period, n);
     let end = closing::burst_end(k, t, period, word, n);
     let again = steps::begun(startup);
-    commanded(k, t, period, end, again, r, n, now, all)
+    commanded(k, t, period, end, again, r, n, moment, all)
 }
 
 // The beat stores a byte in a bank of the module.

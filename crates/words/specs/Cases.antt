@@ -154,6 +154,10 @@ words-in (r ∷ rs) = r .words ∷ words-in rs
 
 -- ── Each place, both ways ──
 
+-- the largest number of 64 bits
+abbrev most : ℕ
+most = 0xffff_ffff_ffff_ffff
+
 abbrev pub places : List Row
 places =
     [] are blank
@@ -188,6 +192,15 @@ places =
     ∷ from 70 busy-numbers are with-banks no-bank busy no-bank no-bank
     ∷ from 78 busy-numbers are with-banks no-bank no-bank busy no-bank
     ∷ from 86 busy-numbers are with-banks no-bank no-bank no-bank busy
+    -- just below the largest of 8 and of 16 bits
+    ∷ (1 ∷ 254 ∷ 3 ∷ 65_534 ∷ []) are state-of 0 254 0 65_534 0 Never no-startup no-bus no-banks
+    -- 64 bits: the period, the record number, clocks, a closing time
+    ∷ (0 ∷ most ∷ 4 ∷ most ∷ 5 ∷ 1 ∷ 6 ∷ most ∷ []) are state-of most 0 0 0 most (On (clock most)) no-startup no-bus no-banks
+    ∷ (9 ∷ 1 ∷ 10 ∷ most ∷ 11 ∷ 1 ∷ 13 ∷ most ∷ []) are with-startup (startup-of Never (One (clock most)) (Loaded 0 (clock most)))
+    ∷ (9 ∷ 2 ∷ 10 ∷ most ∷ []) are with-startup (startup-of Never (Two (clock most)) Unloaded)
+    ∷ (19 ∷ most ∷ []) are with-write (burst false false 0 0 0 most Never 0)
+    ∷ (62 ∷ 1 ∷ 64 ∷ most ∷ []) are with-first (bank-of (Open 0 (clock most)) Never Never)
+    ∷ (62 ∷ 2 ∷ 65 ∷ most ∷ []) are with-first (bank-of (Closed (time most)) Never Never)
     ∷ []
 
 pub places-read : read places ≡ states places

@@ -37,7 +37,7 @@ returns-2 c = rw (c .enum-told2 .given .1)
 -- src/since.rt:57:1
 returns-3 : tie.Need-returns-3
 unfolding short-closed
-returns-3 c = rw (c .before .before .before .before .status .given .1) (below (c .before .before .before .before .status .given .0 .0 .0 + c .before .before .before .before .before .before .args .min .0) (c .before .before .before .before .before .before .args .now .0))
+returns-3 c = rw (c .before .before .before .before .status .given .1) (below (c .before .before .before .before .status .given .0 .0 .0 + c .before .before .before .before .before .before .args .min .0) (c .before .before .before .before .before .before .args .moment .0))
 
 pub short-closed-spec : {M : Type 1} → statement M
 short-closed-spec =

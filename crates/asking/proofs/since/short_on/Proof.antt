@@ -22,7 +22,7 @@ add-result c = record { fits = omega (arith, time-most (c .before .before .at .e
 -- src/since.rt:13:1
 returns : tie.Need-returns
 unfolding short-on
-returns c = rw (c .before .before .before .at .ensures) (below (at (c .before .before .before .before .args .period) (c .before .before .before .before .args .n) .0 + c .before .before .before .before .args .min .0) (c .before .before .before .before .args .now .0))
+returns c = rw (c .before .before .before .at .ensures) (below (at (c .before .before .before .before .args .period) (c .before .before .before .before .args .n) .0 + c .before .before .before .before .args .min .0) (c .before .before .before .before .args .moment .0))
 
 pub short-on-spec : {M : Type 1} → statement M
 short-on-spec = tie.close (tie.spec at-requires add-result returns)
