@@ -14,7 +14,7 @@ use Rattle.rules.specs.declared.Bank.{Bank}
 use Rattle.rules.specs.Banks.{bank-at, row-of}
 use Rattle.rules.specs.After.{with-status, marked}
 use Rattle.rules.proofs.Four.{four}
-use Rattle.packed.specs.Packed.{event-in, status-in, bank-in, banks-in, event-kind, event-number, status-kind, status-number, numbers-of, Held, Packed}
+use Rattle.packed.specs.Packed.{event-in, status-in, bank-in, banks-in, event-kind, event-number, status-kind, status-clock, status-time, numbers-of, Held, Packed}
 
 -- ── A list of 32 by its numbers ──
 
@@ -47,14 +47,14 @@ module _ (P : ℕ → List ℕ → Type 0)
 
 -- ── The bank that is changed ──
 
-abbrev put-status : List ℕ → ℕ → ℕ → ℕ → ℕ → List ℕ
-put-status l at k r n = set (set (set l at k) (at + 1) r) (at + 2) n
+abbrev put-status : List ℕ → ℕ → ℕ → ℕ → ℕ → ℕ → List ℕ
+put-status l at k r n t = set (set (set (set l at k) (at + 1) r) (at + 2) n) (at + 3) t
 
 abbrev put-active : List ℕ → ℕ → ℕ → ℕ → List ℕ
-put-active l at k n = set (set l (at + 3) k) (at + 4) n
+put-active l at k n = set (set l (at + 4) k) (at + 5) n
 
 abbrev put-stored : List ℕ → ℕ → ℕ → ℕ → List ℕ
-put-stored l at k n = set (set l (at + 5) k) (at + 6) n
+put-stored l at k n = set (set l (at + 6) k) (at + 7) n
 
 -- ── What was put is read again ──
 
@@ -63,26 +63,27 @@ unfolding event-in
 event-again Never = refl
 event-again (On n) = refl
 
-status-again : (x : Status) → row-of x < 65_536 → status-in (status-kind x) (row-of x) (status-number x) ≡ x
+status-again : (x : Status) → row-of x < 65_536 → status-in (status-kind x) (row-of x) (status-clock x) (status-time x) ≡ x
 unfolding status-in
 status-again NotStarted h = refl
 status-again (Open row n) h = let m : row % 65_536 ≡ row = omega arith in rw m
 status-again (Closed t) h = refl
 
 -- the numbers of a status, and of an event
-pub record StatusNumbers (x : Status) (k r n : ℕ) : Type 0 where
+pub record StatusNumbers (x : Status) (k r n t : ℕ) : Type 0 where
   pub kind : k ≡ status-kind x
   pub row : r ≡ row-of x
-  pub number : n ≡ status-number x
+  pub on-clock : n ≡ status-clock x
+  pub at-time : t ≡ status-time x
   pub small : r < 65_536
 
 pub record EventNumbers (e : Event) (k n : ℕ) : Type 0 where
   pub kind : k ≡ event-kind e
   pub number : n ≡ event-number e
 
-status-read : {x : Status} {k r n : ℕ} → StatusNumbers x k r n → status-in k r n ≡ x
+status-read : {x : Status} {k r n t : ℕ} → StatusNumbers x k r n t → status-in k r n t ≡ x
 status-read {x} h =
-    (λ i. status-in (h .kind i) (h .row i) (h .number i)) ∙ status-again x (omega (arith, h .small, h .row))
+    (λ i. status-in (h .kind i) (h .row i) (h .on-clock i) (h .at-time i)) ∙ status-again x (omega (arith, h .small, h .row))
 
 event-read : {e : Event} {k n : ℕ} → EventNumbers e k n → event-in k n ≡ e
 event-read {e} h = (λ i. event-in (h .kind i) (h .number i)) ∙ event-again e
@@ -93,21 +94,21 @@ module _ (l : List ℕ) (g : Packed l) (i : ℕ) (h : i < 4) {p : ℕ} (hp : p �
   e : length l ≡ 32
   e = ap length g
 
-  pub status-put : (x : Status) {k r n : ℕ} → StatusNumbers x k r n
-      → Held (put-status l p k r n) (set (banks-in l) i (with-status x (bank-at (banks-in l) i)))
+  pub status-put : (x : Status) {k r n t : ℕ} → StatusNumbers x k r n t
+      → Held (put-status l p k r n t) (set (banks-in l) i (with-status x (bank-at (banks-in l) i)))
   unfolding bank-in
-  status-put x {k} {r} {n} w =
-      let b : banks-in (put-status l p k r n) ≡ set (banks-in l) i (with-status (status-in k r n) (bank-at (banks-in l) i)) =
-      ap (λ (p : ℕ). banks-in (put-status l p k r n)) hp
+  status-put x {k} {r} {n} {t} w =
+      let b : banks-in (put-status l p k r n t) ≡ set (banks-in l) i (with-status (status-in k r n t) (bank-at (banks-in l) i)) =
+      ap (λ (p : ℕ). banks-in (put-status l p k r n t)) hp
       ∙ at-each
-      (λ (i : ℕ) (l : List ℕ). banks-in (put-status l (8 * i) k r n) ≡ set (banks-in l) i (with-status (status-in k r n) (bank-at (banks-in l) i)))
+      (λ (i : ℕ) (l : List ℕ). banks-in (put-status l (8 * i) k r n t) ≡ set (banks-in l) i (with-status (status-in k r n t) (bank-at (banks-in l) i)))
       (λ f. refl) (λ f. refl) (λ f. refl) (λ f. refl) i h l e in
       record {
         banks = b ∙ ap (λ (x : Status). set (banks-in l) i (with-status x (bank-at (banks-in l) i))) (status-read w);
         numbers =
-            (λ j. put-status (g j) (hp j) (w .kind j) (w .row j) (w .number j))
+            (λ j. put-status (g j) (hp j) (w .kind j) (w .row j) (w .on-clock j) (w .at-time j))
             ∙ by-place
-            (λ (i : ℕ). put-status (numbers-of (banks-in l)) (8 * i) (status-kind x) (row-of x) (status-number x)
+            (λ (i : ℕ). put-status (numbers-of (banks-in l)) (8 * i) (status-kind x) (row-of x) (status-clock x) (status-time x)
             ≡ numbers-of (set (banks-in l) i (with-status x (bank-at (banks-in l) i))))
             refl refl refl refl i h;
       }
@@ -127,25 +128,25 @@ module _ (l : List ℕ) (g : Packed l) (i : ℕ) (h : i < 4) {p : ℕ} (hp : p �
             (λ f. refl) (λ f. refl) (λ f. refl) (λ f. refl) i h l e;
       }
 
-  pub bank-put : (b : Bank) {k r n a x c d : ℕ} → StatusNumbers (b .status) k r n → EventNumbers (b .active) a x → EventNumbers (b .stored) c d
-      → Held (put-stored (put-active (put-status l p k r n) p a x) p c d) (set (banks-in l) i b)
+  pub bank-put : (b : Bank) {k r n t a x c d : ℕ} → StatusNumbers (b .status) k r n t → EventNumbers (b .active) a x → EventNumbers (b .stored) c d
+      → Held (put-stored (put-active (put-status l p k r n t) p a x) p c d) (set (banks-in l) i b)
   unfolding bank-in
-  bank-put b {k} {r} {n} {a} {x} {c} {d} hs ha ht =
-      let y : banks-in (put-stored (put-active (put-status l p k r n) p a x) p c d)
-      ≡ set (banks-in l) i (record { status = status-in k r n; active = event-in a x; stored = event-in c d }) =
-      ap (λ (p : ℕ). banks-in (put-stored (put-active (put-status l p k r n) p a x) p c d)) hp
+  bank-put b {k} {r} {n} {t} {a} {x} {c} {d} hs ha ht =
+      let y : banks-in (put-stored (put-active (put-status l p k r n t) p a x) p c d)
+      ≡ set (banks-in l) i (record { status = status-in k r n t; active = event-in a x; stored = event-in c d }) =
+      ap (λ (p : ℕ). banks-in (put-stored (put-active (put-status l p k r n t) p a x) p c d)) hp
       ∙ at-each
-      (λ (i : ℕ) (l : List ℕ). banks-in (put-stored (put-active (put-status l (8 * i) k r n) (8 * i) a x) (8 * i) c d)
-      ≡ set (banks-in l) i (record { status = status-in k r n; active = event-in a x; stored = event-in c d }))
+      (λ (i : ℕ) (l : List ℕ). banks-in (put-stored (put-active (put-status l (8 * i) k r n t) (8 * i) a x) (8 * i) c d)
+      ≡ set (banks-in l) i (record { status = status-in k r n t; active = event-in a x; stored = event-in c d }))
       (λ f. refl) (λ f. refl) (λ f. refl) (λ f. refl) i h l e in
       record {
         banks = y ∙ (λ j. set (banks-in l) i (record { status = status-read hs j; active = event-read ha j; stored = event-read ht j }));
         numbers =
-            (λ j. put-stored (put-active (put-status (g j) (hp j) (hs .kind j) (hs .row j) (hs .number j)) (hp j) (ha .kind j) (ha .number j)) (hp j)
+            (λ j. put-stored (put-active (put-status (g j) (hp j) (hs .kind j) (hs .row j) (hs .on-clock j) (hs .at-time j)) (hp j) (ha .kind j) (ha .number j)) (hp j)
             (ht .kind j) (ht .number j))
             ∙ by-place
             (λ (i : ℕ). put-stored
-            (put-active (put-status (numbers-of (banks-in l)) (8 * i) (status-kind (b .status)) (row-of (b .status)) (status-number (b .status))) (8 * i)
+            (put-active (put-status (numbers-of (banks-in l)) (8 * i) (status-kind (b .status)) (row-of (b .status)) (status-clock (b .status)) (status-time (b .status))) (8 * i)
             (event-kind (b .active)) (event-number (b .active)))
             (8 * i) (event-kind (b .stored)) (event-number (b .stored))
             ≡ numbers-of (set (banks-in l) i b))

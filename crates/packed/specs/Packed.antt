@@ -1,4 +1,5 @@
--- The four banks as numbers in one list, eight to a bank, as the loop over records holds them. Definitions only.
+-- The four banks as numbers in one list, eight to a bank, as the loop over records holds them. Each number is of one kind: a clock, a
+-- time, a row, or which variant it is. Definitions only.
 use Prim.Native.Nat.{ℕ, _+_, _*_, _%_}
 use mathlib.Core.Path.{_≡_}
 use mathlib.Core.Bool.{cond}
@@ -18,16 +19,16 @@ unfoldable pub event-in : ℕ → ℕ → Event
 event-in kind n = cond (eqb kind 0) Never (On (clock n))
 
 -- 0 not started; 1 open, with its row and the clock of its ACTIVE; any other number closed, with the time of its closing
-unfoldable pub status-in : ℕ → ℕ → ℕ → Status
-status-in kind row n = cond (eqb kind 0) NotStarted (cond (eqb kind 1) (Open (row % 65_536) (clock n)) (Closed (time n)))
+unfoldable pub status-in : ℕ → ℕ → ℕ → ℕ → Status
+status-in kind row n t = cond (eqb kind 0) NotStarted (cond (eqb kind 1) (Open (row % 65_536) (clock n)) (Closed (time t)))
 
--- bank i: its status in three numbers, its last ACTIVE in two, its last store in two, and one that is not used
+-- bank i: its status in four numbers, its last ACTIVE in two, its last store in two
 unfoldable pub bank-in : List ℕ → ℕ → Bank
 bank-in l i =
     record {
-      status = status-in (getD l (8 * i) 0) (getD l (8 * i + 1) 0) (getD l (8 * i + 2) 0);
-      active = event-in (getD l (8 * i + 3) 0) (getD l (8 * i + 4) 0);
-      stored = event-in (getD l (8 * i + 5) 0) (getD l (8 * i + 6) 0);
+      status = status-in (getD l (8 * i) 0) (getD l (8 * i + 1) 0) (getD l (8 * i + 2) 0) (getD l (8 * i + 3) 0);
+      active = event-in (getD l (8 * i + 4) 0) (getD l (8 * i + 5) 0);
+      stored = event-in (getD l (8 * i + 6) 0) (getD l (8 * i + 7) 0);
     }
 
 abbrev pub banks-in : List ℕ → List Bank
@@ -48,22 +49,29 @@ status-kind NotStarted = 0
 status-kind (Open row n) = 1
 status-kind (Closed t) = 2
 
-abbrev pub status-number : Status → ℕ
-status-number NotStarted = 0
-status-number (Open row n) = n .0
-status-number (Closed t) = t .0
+-- the clock of the ACTIVE of an open bank
+abbrev pub status-clock : Status → ℕ
+status-clock NotStarted = 0
+status-clock (Open row n) = n .0
+status-clock (Closed t) = 0
 
--- a bank's eight numbers, the last one not used
+-- the closing time of a closed bank
+abbrev pub status-time : Status → ℕ
+status-time NotStarted = 0
+status-time (Open row n) = 0
+status-time (Closed t) = t .0
+
+-- a bank's eight numbers
 abbrev pub bank-numbers : Bank → List ℕ
 bank-numbers b =
     status-kind (b .status)
     ∷ row-of (b .status)
-    ∷ status-number (b .status)
+    ∷ status-clock (b .status)
+    ∷ status-time (b .status)
     ∷ event-kind (b .active)
     ∷ event-number (b .active)
     ∷ event-kind (b .stored)
     ∷ event-number (b .stored)
-    ∷ 0
     ∷ []
 
 abbrev pub numbers-of : List Bank → List ℕ

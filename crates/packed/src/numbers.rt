@@ -1,13 +1,13 @@
 // The four banks as numbers in one array, eight to a bank, for the loop over records: the array is lent to what asks and changes
-// them, where banks that are handed on would be copied for each record. A clock and a time are both a number here; the kind beside
-// it says which, and only in this file.
+// them, where banks that are handed on would be copied for each record. Each number is of one kind, a clock or a time, a row or which
+// variant it is, and only this file reads and writes them.
 ghost use mathlib.Core.Path.{_≡_};
 ghost use mathlib.Core.Bool.{true};
 ghost use Prim.Native.Nat.{_%_, _*_};
 ghost use lib.ListN.{set};
 ghost use Rattle.rules.specs.Banks.{bank-at};
 ghost use Rattle.rules.specs.After.{with-status, marked};
-ghost use Rattle.packed.specs.Packed.{event-in, status-in, bank-in, banks-in, Held, Packed, event-kind, event-number, status-kind, status-number};
+ghost use Rattle.packed.specs.Packed.{event-in, status-in, bank-in, banks-in, Held, Packed, event-kind, event-number, status-kind, status-clock, status-time};
 use rules::Bank;
 use rules::Status;
 use rules::banks;
@@ -24,8 +24,8 @@ fn event_in(kind: u64, n: u64) -> Event
     Event::On(Clock(n))
 }
 
-fn status_in(kind: u64, row: u64, n: u64) -> Status
-    ensures { λ r. ⌜ r ≡ status-in kind row n ⌝ }
+fn status_in(kind: u64, row: u64, n: u64, t: u64) -> Status
+    ensures { λ r. ⌜ r ≡ status-in kind row n t ⌝ }
 {
     if kind == 0 {
         return Status::NotStarted;
@@ -35,7 +35,7 @@ fn status_in(kind: u64, row: u64, n: u64) -> Status
         let active = Clock(n);
         return Status::Open { row, active };
     }
-    let closing = Ps(n);
+    let closing = Ps(t);
     Status::Closed { closing }
 }
 
@@ -51,7 +51,7 @@ pub fn status(held: &[u64; 32], i: u8) -> Status
     ensures { λ r. ⌜ r ≡ bank-in (now (held .entry)) (i % 4) .status ⌝ }
 {
     let at = place(i);
-    status_in(held[at], held[at + 1], held[at + 2])
+    status_in(held[at], held[at + 1], held[at + 2], held[at + 3])
 }
 
 // Bank i.
@@ -59,9 +59,9 @@ pub fn bank(held: &[u64; 32], i: u8) -> Bank
     ensures { λ r. ⌜ r ≡ bank-in (now (held .entry)) (i % 4) ⌝ }
 {
     let at = place(i);
-    let status = status_in(held[at], held[at + 1], held[at + 2]);
-    let active = event_in(held[at + 3], held[at + 4]);
-    let stored = event_in(held[at + 5], held[at + 6]);
+    let status = status_in(held[at], held[at + 1], held[at + 2], held[at + 3]);
+    let active = event_in(held[at + 4], held[at + 5]);
+    let stored = event_in(held[at + 6], held[at + 7]);
     Bank {
         status,
         active,
@@ -107,12 +107,24 @@ fn status_kind(x: Status) -> u64
     }
 }
 
-fn status_number(x: Status) -> u64
-    ensures { λ r. ⌜ r ≡ status-number x ⌝ }
+// The clock of the ACTIVE of an open bank.
+fn status_clock(x: Status) -> u64
+    ensures { λ r. ⌜ r ≡ status-clock x ⌝ }
 {
     match x {
         Status::NotStarted => 0,
         Status::Open { row: _, active } => active.0,
+        Status::Closed { closing: _ } => 0,
+    }
+}
+
+// The closing time of a closed bank.
+fn status_time(x: Status) -> u64
+    ensures { λ r. ⌜ r ≡ status-time x ⌝ }
+{
+    match x {
+        Status::NotStarted => 0,
+        Status::Open { row: _, active: _ } => 0,
         Status::Closed { closing } => closing.0,
     }
 }
@@ -125,7 +137,8 @@ pub fn put_status(held: &mut [u64; 32], i: u8, x: Status)
     let at = place(i);
     held[at] = status_kind(x);
     held[at + 1] = banks::row_of(x) as u64;
-    held[at + 2] = status_number(x);
+    held[at + 2] = status_clock(x);
+    held[at + 3] = status_time(x);
 }
 
 // A byte was stored in bank i on clock n.
@@ -134,8 +147,8 @@ pub fn put_stored(held: &mut [u64; 32], i: u8, n: Clock)
     ensures { λ _. ⌜ Held (now (held .exit)) (set (banks-in (now (held .entry))) (i % 4) (marked true n (bank-at (banks-in (now (held .entry))) (i % 4)))) ⌝ }
 {
     let at = place(i);
-    held[at + 5] = 1;
-    held[at + 6] = n.0;
+    held[at + 6] = 1;
+    held[at + 7] = n.0;
 }
 
 // This bank as bank i.
@@ -149,11 +162,12 @@ pub fn put_bank(held: &mut [u64; 32], i: u8, b: Bank)
     let stored = b.stored;
     held[at] = status_kind(status);
     held[at + 1] = banks::row_of(status) as u64;
-    held[at + 2] = status_number(status);
-    held[at + 3] = event_kind(active);
-    held[at + 4] = event_number(active);
-    held[at + 5] = event_kind(stored);
-    held[at + 6] = event_number(stored);
+    held[at + 2] = status_clock(status);
+    held[at + 3] = status_time(status);
+    held[at + 4] = event_kind(active);
+    held[at + 5] = event_number(active);
+    held[at + 6] = event_kind(stored);
+    held[at + 7] = event_number(stored);
 }
 
 pub fn put_banks(held: &mut [u64; 32], all: [Bank; 4])
