@@ -28,8 +28,8 @@ RESULTS = os.path.join(HOME, "results-facts.json")
 SECONDS = 600
 # Their definitions are for the code behind the public calls. Each is proved equal to the rules by a law or a contract.
 BRIDGES = ("asking", "taking", "packed", "device", "explain", "bench")
-# No definitions of answers: a fact for a theorem, which needs the code's own laws; and what tables share.
-OUTSIDE = ("hawsehole/Walk", "rules/Demand3", "units/Facts", "hawsehole/Traces")
+# No definitions of answers: facts for theorems, which need the code's own laws; and what tables share.
+OUTSIDE = ("hawsehole/Walk", "rules/Demand3", "rules/Calls", "units/Facts", "hawsehole/Traces")
 TABLE = re.compile(r"(Cases|Printed)$")
 ERROR = re.compile(r"crates/(\w+)/(\w+)/(\S+?)\.antt:\d+:\d+: error: (.*(?:\n +.*)*)")
 MISFIT = re.compile(r"not in scope|does not parse|cannot be named|no such name|unbound")

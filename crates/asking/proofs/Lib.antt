@@ -2,5 +2,4 @@ pub mod Lowest
 pub mod Events
 pub mod Ladders
 pub mod Moment
-pub mod Codes
 pub mod Spans

@@ -2,8 +2,8 @@
 //
 // `own` is the record's bank of `all`: a function that looks it up by its number would copy the four to do so.
 ghost use mathlib.Core.Path.{_≡_};
-ghost use mathlib.Core.Bool.{true, false};
-ghost use Rattle.layout.specs.Commands.{code-of};
+ghost use mathlib.Core.Bool.{true, false, _||_};
+ghost use Rattle.layout.specs.Commands.{is, looks-at-all, access};
 ghost use Prim.Native.Nat.{_≤_, _<_};
 ghost use Rattle.layout.specs.declared.Command.the-variants as Command;
 ghost use Rattle.rules.specs.Numbers.{first-broken};
@@ -84,14 +84,13 @@ fn ask_begun(
     n: Clock,
     moment: Ps,
 ) -> Verdict
-    requires { ⌜ Call t c all r × (begun (c .startup) ≡ true) × (code-of k < 3) ⌝ }
+    requires { ⌜ Call t c all r × (begun (c .startup) ≡ true) × (looks-at-all k ≡ true) ⌝ }
     ensures { λ x. ⌜ x ≡ first-broken (command-rules k t (core-module c) (c .period) (found c all n) r n moment) ⌝ }
 {
-    let code = layout::code_of(k);
-    if code == 2 {
+    if layout::is(k, Command::Precharge) {
         return ask_precharge(t, c, all, r, n, moment);
     }
-    if code == 1 {
+    if layout::is(k, Command::Refresh) {
         return ask_refresh(t, c, all, r, n, moment);
     }
     ask_load_mode(t, c, all, r, n, moment)
@@ -111,7 +110,7 @@ fn ask_first(
     ensures { λ x. ⌜ x ≡ first-broken (command-rules k t (core-module c) (c .period) (found c all n) r n moment) ⌝ }
 {
     let every = layout::a10(r.addr);
-    if (layout::code_of(k) == 2) & every & (POWER_UP <= moment.0) {
+    if layout::is(k, Command::Precharge) & every & (POWER_UP <= moment.0) {
         return Verdict::Taken;
     }
     Verdict::refused(14)
@@ -127,7 +126,7 @@ pub fn ask_banks(
     n: Clock,
     moment: Ps,
 ) -> Verdict
-    requires { ⌜ Call t c all r × (code-of k < 3) ⌝ }
+    requires { ⌜ Call t c all r × (looks-at-all k ≡ true) ⌝ }
     ensures { λ x. ⌜ x ≡ first-broken (command-rules k t (core-module c) (c .period) (found c all n) r n moment) ⌝ }
 {
     let startup = c.startup;
@@ -176,7 +175,7 @@ pub fn ask_burst(
     n: Clock,
     moment: Ps,
 ) -> Verdict
-    requires { ⌜ Call t c all r × (own ≡ bank-at all (r .ba)) × (3 < code-of k) × (code-of k < 7) × (n .0 ≤ clock-max) ⌝ }
+    requires { ⌜ Call t c all r × (own ≡ bank-at all (r .ba)) × ((access k || is k Command.Terminate) ≡ true) × (n .0 ≤ clock-max) ⌝ }
     ensures { λ x. ⌜ x ≡ first-broken (command-rules k t (core-module c) (c .period) (found c all n) r n moment) ⌝ }
 {
     let startup = c.startup;

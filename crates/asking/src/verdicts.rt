@@ -1,9 +1,9 @@
 // 17 to 22: the mode word of a LOAD MODE, and the data bus.
 ghost use mathlib.Core.Path.{_≡_};
-ghost use mathlib.Core.Bool.{cond};
+ghost use mathlib.Core.Bool.{true, _||_, cond};
 ghost use lib.Dec.{eqb};
 ghost use Prim.Native.Nat.{_≤_, _<_};
-ghost use Rattle.layout.specs.Commands.{code-of, is};
+ghost use Rattle.layout.specs.Commands.{is, access};
 ghost use Rattle.bursts.specs.Bus.{bursts-finished, bus-clear};
 ghost use Rattle.layout.specs.declared.Command.the-variants as Command;
 ghost use Rattle.speed.specs.Bounds.{Bounds};
@@ -75,7 +75,7 @@ fn auto_verdict(k: Command, t: SpeedTable, c: Core, status: Status, n: Clock) ->
 fn clear_for(k: Command, c: Core, n: Clock) -> bool
     ensures { λ r. ⌜ r ≡ (is k Command.Write ⇒ bus-clear (c .last) (c .bus .masks) (c .bus .reads) n) ⌝ }
 {
-    if layout::code_of(k) == 4 {
+    if layout::is(k, Command::Write) {
         let last = c.last;
         let bus = c.bus;
         let held = bus.masks;
@@ -94,7 +94,7 @@ pub fn bus_verdict(
     r: Record,
     n: Clock,
 ) -> Verdict
-    requires { ⌜ Bounds t × FitPeriod (c .period) × FitStatus status × (n .0 ≤ clock-max) × (3 < code-of k) × (code-of k < 7) ⌝ }
+    requires { ⌜ Bounds t × FitPeriod (c .period) × FitStatus status × (n .0 ≤ clock-max) × ((access k || is k Command.Terminate) ≡ true) ⌝ }
     ensures { λ x. ⌜ x ≡ first-broken (bus-rules k t (c .period) (word c) (bursts-finished (c .bus .write) (c .bus .reads) n)
         (bus-clear (c .last) (c .bus .masks) (c .bus .reads) n) status r n) ⌝ }
 {

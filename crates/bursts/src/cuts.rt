@@ -1,23 +1,15 @@
 // A burst's registration, and what cuts it short (01, Beats).
 ghost use mathlib.Core.Path.{_≡_};
 ghost use mathlib.Core.Bool.{cond};
-ghost use Rattle.layout.specs.Commands.{is};
 ghost use Rattle.bursts.specs.Burst.{no-burst, burst-at, ends, cut-on, cut-if, cut-by};
 use crate::Burst;
 use layout::Command;
 use layout::a10;
-use layout::code_of;
 use layout::covers;
+use layout::is;
 use layout::is_access;
 use units::Clock;
 use units::Event;
-
-// Command k is this one.
-pub fn is(k: Command, this: Command) -> bool
-    ensures { λ r. ⌜ r ≡ is k this ⌝ }
-{
-    code_of(k) == code_of(this)
-}
 
 // "READ, WRITE, BURST TERMINATE, or PRECHARGE of its bank": whether the command ends a burst of bank i. The first three
 // end it whatever bank they are for, and PRECHARGE ALL is for each.

@@ -21,11 +21,11 @@ ghost use Rattle.bursts.specs.Bus.{
 use crate::Beat;
 use crate::Burst;
 use crate::Masks;
-use crate::cuts::is;
 use crate::masking::masks_on;
 use crate::masking::two_before;
 use layout::Command;
 use layout::Record;
+use layout::is;
 use layout::is_access;
 use mode::length_of;
 use units::Clock;

@@ -1,11 +1,8 @@
 -- What a record leaves, part by part, as the loop over records changes it in place. Assumes nothing.
-use Prim.Native.Nat.{ℕ, _+_, _<_}
-use native.Mathlib.Omega.{arith}
-use mathlib.Core.Path.{_≡_, refl, ap, _∙_}
-use mathlib.Core.Bool.{Bool, false, true≢false}
+use Prim.Native.Nat.{ℕ, _+_}
+use mathlib.Core.Path.{_≡_, refl, sym, ap, _∙_}
+use mathlib.Core.Bool.{Bool, false, true≢false, _||_}
 use mathlib.Core.List.{List}
-use lib.ListN.{length}
-use borrow.Author.Tests.{ltb-false}
 use Rattle.units.specs.declared.Clock.{Clock}
 use Rattle.units.specs.declared.Ps.{Ps}
 use Rattle.units.specs.declared.Event.the-variants.{On}
@@ -24,7 +21,7 @@ use Rattle.layout.specs.declared.Command.the-variants.{
   Refresh,
   LoadMode,
 }
-use Rattle.layout.specs.Commands.{command, code-of, executable}
+use Rattle.layout.specs.Commands.{command, is, executable}
 use Rattle.bursts.specs.declared.Burst.{Burst}
 use Rattle.bursts.specs.declared.Bus.{Bus}
 use Rattle.bursts.specs.declared.Masks.{Masks}
@@ -52,7 +49,7 @@ use Rattle.rules.specs.After.{
   commanded,
   mark-banks,
 }
-use Rattle.packed.proofs.Own.{none-moved}
+use Rattle.taking.proofs.Leaves.{untouched}
 use Rattle.device.specs.InPlace.{state-of}
 
 -- ── The bus ──
@@ -103,22 +100,21 @@ startup-kept LoadMode h r n u = absurd (true≢false h)
 
 -- ── The banks ──
 
--- NOP and COMMAND INHIBIT ask no auto precharge
-no-auto : (k : Command) → executable k ≡ false → (r : Record) → asks-auto k r ≡ false
-no-auto Inhibit h r = refl
-no-auto Nop h r = refl
-no-auto Active h r = refl
-no-auto Read h r = absurd (true≢false h)
-no-auto Write h r = absurd (true≢false h)
-no-auto Terminate h r = refl
-no-auto Precharge h r = refl
-no-auto Refresh h r = refl
-no-auto LoadMode h r = refl
+-- NOP and COMMAND INHIBIT touch no bank
+touch-none : (k : Command) → executable k ≡ false → (r : Record) → (is k Active || (asks-auto k r || is k Precharge)) ≡ false
+touch-none Inhibit h r = refl
+touch-none Nop h r = refl
+touch-none Active h r = absurd (true≢false h)
+touch-none Read h r = absurd (true≢false h)
+touch-none Write h r = absurd (true≢false h)
+touch-none Terminate h r = refl
+touch-none Precharge h r = absurd (true≢false h)
+touch-none Refresh h r = refl
+touch-none LoadMode h r = refl
 
 pub banks-kept : (k : Command) → executable k ≡ false → (t : SpeedTable) (period end : Ps) (again : Bool) (r : Record) (n : Clock) (moment : Ps) (l : List Bank)
-    → length l ≡ 4 → r .ba < 4 → l ≡ commanded k t period end again r n moment l
-banks-kept k h t period end again r n moment l e small =
-    none-moved k t period end again r n moment l e small (omega (arith, ltb-false (code-of k) 7 h)) (no-auto k h r)
+    → l ≡ commanded k t period end again r n moment l
+banks-kept k h t period end again r n moment l = sym (untouched k t period end again r n moment (touch-none k h r) l)
 
 -- ── The next state ──
 

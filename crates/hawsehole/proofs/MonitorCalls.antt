@@ -26,8 +26,7 @@ use Rattle.words.specs.Narrow.{Narrow}
 use Rattle.words.proofs.Stores.{words-length, put-all}
 use Rattle.words.proofs.ReadBack.{read-back, held}
 use Rattle.hawsehole.specs.Numbers.{word-of}
-use Rattle.hawsehole.specs.Walk.{last-clock}
-use Rattle.hawsehole.specs.Monitor.{monitor-rules, word-for, ask-words, monitored, take-words}
+use Rattle.hawsehole.specs.Monitor.{monitor-rules, word-for, ask-words, monitored, last-clock, take-words}
 use Rattle.hawsehole.proofs.Monitored.{ask-out, ask-in, take-in}
 
 module _ (u : Setup) (s : State) (h : Narrow s) (bytes page : List ℕ) where

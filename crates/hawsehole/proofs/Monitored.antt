@@ -34,8 +34,7 @@ use Rattle.rules.proofs.OneRecord.{asked-entered, asked-out}
 use Rattle.asking.proofs.Ladders.{then, then-taken, first-join}
 use Rattle.words.specs.Words.{state-words, state-in, words-of, holds, put-words}
 use Rattle.hawsehole.specs.Numbers.{word-of}
-use Rattle.hawsehole.specs.Walk.{last-clock}
-use Rattle.hawsehole.specs.Monitor.{place-rules, grade-rules, start-rules, started, start-call, monitor-rules, word-for, ask-words, monitored, take-words}
+use Rattle.hawsehole.specs.Monitor.{place-rules, grade-rules, start-rules, started, start-call, monitor-rules, word-for, ask-words, monitored, last-clock, take-words}
 
 -- ── A last rule after others ──
 

@@ -6,7 +6,10 @@ use lib.Dec.{eqb, ltb}
 use lib.ListN.{length}
 use Rattle.units.specs.declared.Module.{Module}
 use Rattle.units.specs.Module.{module-of, rows}
-use Rattle.units.specs.Time.{time}
+use Rattle.units.specs.declared.Clock.{Clock}
+use Rattle.units.specs.declared.Event.{Event}
+use Rattle.units.specs.declared.Event.the-variants.{Never, On}
+use Rattle.units.specs.Time.{clock, time}
 use Rattle.rules.specs.declared.Setup.{Setup}
 use Rattle.rules.specs.declared.Answer.{Answer}
 use Rattle.rules.specs.declared.Verdict.the-variants.{Taken, Refused}
@@ -15,7 +18,6 @@ use Rattle.rules.specs.Parts.{start}
 use Rattle.rules.specs.OneRecord.{period-fits, grade-known, state-rules, ask-call, Took, take-call}
 use Rattle.rules.specs.Report.{put-line}
 use Rattle.words.specs.Words.{state-words, state-in, words-of, holds, put-words}
-use Rattle.hawsehole.specs.Walk.{last-clock}
 use Rattle.hawsehole.specs.Numbers.{word-of}
 
 -- ── Before the first record ──
@@ -77,6 +79,11 @@ pub record Monitored : Type 0 where
 
 abbrev pub monitored : ℕ → List ℕ → List ℕ → List ℕ → Monitored
 monitored word words page beat = record { word = word; words = words; page = page; beat = beat }
+
+-- the clock of the last record taken; no state after one is without it
+abbrev pub last-clock : Event → Clock
+last-clock Never = clock 0
+last-clock (On n) = n
 
 -- "a taken record's two beat words go to `beat` as far as it has room"
 abbrev pub taken-words : ℕ → Took → List ℕ → List ℕ → Monitored

@@ -4,10 +4,6 @@ use mathlib.Core.Bool.{cond}
 use mathlib.Core.List.{List}
 use lib.Dec.{eqb}
 use lib.ListN.{take, drop}
-use Rattle.units.specs.declared.Clock.{Clock}
-use Rattle.units.specs.declared.Event.{Event}
-use Rattle.units.specs.declared.Event.the-variants.{Never, On}
-use Rattle.units.specs.Time.{clock}
 use Rattle.rules.specs.declared.State.{State}
 use Rattle.rules.specs.declared.Setup.{Setup}
 use Rattle.rules.specs.declared.Verdict.the-variants.{Taken, Refused}
@@ -16,11 +12,7 @@ use Rattle.rules.specs.declared.Ran.{Ran}
 use Rattle.rules.specs.Run.{Line}
 use Rattle.rules.specs.OneRecord.{Stepped, step}
 use Rattle.rules.specs.Report.{put-line, Left, left, ran}
-
--- the clock of the last record taken
-abbrev pub last-clock : Event → Clock
-last-clock Never = clock 0
-last-clock (On x) = x
+use Rattle.hawsehole.specs.Monitor.{last-clock}
 
 -- the line of a record that a call took: the clock that the next state holds, and the answer's beat
 abbrev pub line-of : Stepped → Line

@@ -33,6 +33,7 @@ use Rattle.layout.specs.Commands.{
   code-of,
   is,
   executable,
+  looks-at-all,
   access,
   a10-of,
   a10,
@@ -124,6 +125,8 @@ command-facts =
     ∷ marks-by-nine (λ k. is k Inhibit) (0 ∷ 0 ∷ 0 ∷ 0 ∷ 0 ∷ 0 ∷ 0 ∷ 0 ∷ 1 ∷ [])
     -- "executable commands (all but those two)"
     ∷ marks-by-nine (λ k. executable k) (1 ∷ 1 ∷ 1 ∷ 1 ∷ 1 ∷ 1 ∷ 1 ∷ 0 ∷ 0 ∷ [])
+    -- LOAD MODE, AUTO REFRESH and PRECHARGE
+    ∷ marks-by-nine (λ k. looks-at-all k) (1 ∷ 1 ∷ 1 ∷ 0 ∷ 0 ∷ 0 ∷ 0 ∷ 0 ∷ 0 ∷ [])
     -- READ and WRITE
     ∷ marks-by-nine (λ k. access k) (0 ∷ 0 ∷ 0 ∷ 0 ∷ 1 ∷ 1 ∷ 0 ∷ 0 ∷ 0 ∷ [])
     -- "PRECHARGE, one bank or (A10 HIGH) each of the four": with A10 only PRECHARGE is PRECHARGE ALL, with all bits but A10 none is

@@ -46,6 +46,10 @@ is a b = eqb (code-of a) (code-of b)
 abbrev pub executable : Command → Bool
 executable k = ltb (code-of k) (code-of Nop)
 
+-- LOAD MODE, AUTO REFRESH and PRECHARGE: "all banks closed" and "one bank or (A10 HIGH) each of the four"
+abbrev pub looks-at-all : Command → Bool
+looks-at-all k = ltb (code-of k) (code-of Active)
+
 -- READ or WRITE
 abbrev pub access : Command → Bool
 access k = is k Read || is k Write

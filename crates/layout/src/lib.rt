@@ -6,7 +6,7 @@ ghost use mathlib.Core.List.{[], _∷_};
 ghost use lib.Dec.{leb};
 ghost use lib.ListN.{length};
 ghost use Rattle.layout.specs.Bytes.{number-after, word-at, header-from, has-pins, lane-masks, record-from, read-header, read-record};
-ghost use Rattle.layout.specs.Commands.{command-of, code-of, executable, access, a10-of, column-of, column-on, covers};
+ghost use Rattle.layout.specs.Commands.{command-of, code-of, is, executable, looks-at-all, access, a10-of, column-of, column-on, covers};
 use units::Module;
 
 // The trace's first 16 bytes.
@@ -220,6 +220,13 @@ pub fn code_of(k: Command) -> u8
     }
 }
 
+// Command k is this one.
+pub fn is(k: Command, this: Command) -> bool
+    ensures { λ r. ⌜ r ≡ is k this ⌝ }
+{
+    code_of(k) == code_of(this)
+}
+
 // The rules 14 to 22 are asked of these only: all but NOP and COMMAND INHIBIT.
 pub fn is_executable(k: Command) -> bool
     ensures { λ r. ⌜ r ≡ executable k ⌝ }
@@ -227,12 +234,18 @@ pub fn is_executable(k: Command) -> bool
     code_of(k) < 7
 }
 
+// LOAD MODE, AUTO REFRESH and PRECHARGE, which look at each of the four banks.
+pub fn looks_at_all(k: Command) -> bool
+    ensures { λ r. ⌜ r ≡ looks-at-all k ⌝ }
+{
+    code_of(k) < 3
+}
+
 // READ or WRITE.
 pub fn is_access(k: Command) -> bool
     ensures { λ r. ⌜ r ≡ access k ⌝ }
 {
-    let code = code_of(k);
-    (code == 5) | (code == 4)
+    is(k, Command::Read) | is(k, Command::Write)
 }
 
 // A10 HIGH: a READ or WRITE with auto precharge, a PRECHARGE of all four banks.

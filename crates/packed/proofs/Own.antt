@@ -14,7 +14,8 @@ use Rattle.speed.specs.declared.SpeedTable.{SpeedTable}
 use Rattle.layout.specs.declared.Record.{Record}
 use Rattle.layout.specs.declared.Command.{Command}
 use Rattle.layout.specs.declared.Command.the-variants.{Active, Precharge}
-use Rattle.layout.specs.Commands.{code-of, is}
+use Rattle.layout.specs.Commands.{is, looks-at-all}
+use Rattle.layout.proofs.Codes.{other}
 use Rattle.bursts.specs.declared.Beat.{Beat}
 use Rattle.bursts.specs.declared.Beat.the-variants.{Quiet, Stores, Drives}
 use Rattle.bursts.specs.Bus.{stores-in}
@@ -64,27 +65,26 @@ module _ (k : Command) (t : SpeedTable) (period end : Ps) (again : Bool) (r : Re
   own-place : r .ba % 4 ≡ r .ba
   own-place = omega (arith, small)
 
-  pub active-moved : code-of k ≡ 3 → set l (r .ba % 4) (activated (r .addr) n) ≡ commanded k t period end again r n moment l
+  pub active-moved : is k Active ≡ true → set l (r .ba % 4) (activated (r .addr) n) ≡ commanded k t period end again r n moment l
   active-moved h =
-      let x = eq-eqb (code-of k) 3 h in
-      let y = ne-eqb (code-of k) 2 (λ p. omega (arith, h)) in
+      let other-one = other (λ k. is k Active) k Precharge refl h in
       rw own-place
-      (ap (set l (r .ba)) (own-active k t period end again r n moment x (bank-at l (r .ba))) ∙ own-commanded k t period end again r n moment y small l e)
+      (ap (set l (r .ba)) (own-active k t period end again r n moment h (bank-at l (r .ba)))
+      ∙ own-commanded k t period end again r n moment other-one small l e)
 
-  pub auto-moved : 4 ≤ code-of k → asks-auto k r ≡ true
+  pub auto-moved : is k Active ≡ false → asks-auto k r ≡ true
       → set l (r .ba % 4) (with-status (auto-closed t period end (bank-at l (r .ba % 4) .status)) (bank-at l (r .ba % 4)))
       ≡ commanded k t period end again r n moment l
   auto-moved h a =
-      let x = ne-eqb (code-of k) 3 (λ p. omega (arith, h)) in
-      let y = ne-eqb (code-of k) 2 (λ p. omega (arith, h)) in
+      let other-one = other (λ k. asks-auto k r) k Precharge refl a in
       rw own-place
-      (ap (set l (r .ba)) (own-auto k t period end again r n moment x a (bank-at l (r .ba))) ∙ own-commanded k t period end again r n moment y small l e)
+      (ap (set l (r .ba)) (own-auto k t period end again r n moment h a (bank-at l (r .ba)))
+      ∙ own-commanded k t period end again r n moment other-one small l e)
 
-  pub none-moved : 4 ≤ code-of k → asks-auto k r ≡ false → l ≡ commanded k t period end again r n moment l
-  none-moved h a =
-      let x = ne-eqb (code-of k) 3 (λ p. omega (arith, h)) in
-      let y = ne-eqb (code-of k) 2 (λ p. omega (arith, h)) in
-      sym (untouched k t period end again r n moment (rw (x, a, y)) l)
+  pub none-moved : is k Active ≡ false → asks-auto k r ≡ false → looks-at-all k ≡ false → l ≡ commanded k t period end again r n moment l
+  none-moved h a g =
+      let other-one = other (λ k. not (looks-at-all k)) k Precharge refl (rw g) in
+      sym (untouched k t period end again r n moment (rw (h, a, other-one)) l)
 
 -- ── The beat's mark ──
 

@@ -74,12 +74,11 @@ fn ask_command(t: SpeedTable, c: Core, held: &[u64; 32], r: Record, n: Clock, mo
         (command-rules (command r) t (core-module c) (c .period) (found c (banks-in (now (held .entry))) n) r n moment)) ⌝ }
 {
     let k = layout::command_of(r.code);
-    let code = layout::code_of(k);
-    if code < 3 {
+    if layout::looks_at_all(k) {
         let all = numbers::banks(held);
         return commands::ask_banks(k, t, c, all, r, n, moment);
     }
-    if code == 3 {
+    if layout::is(k, Command::Active) {
         let own = numbers::bank(held, r.ba);
         let all = numbers::banks(held);
         return commands::ask_active(t, c, own, all, r, n, moment);
@@ -125,8 +124,8 @@ pub fn move_bus(
     leaving::bus_moved(k, r, n, startup, own, bus)
 }
 
-// The banks after the command. LOAD MODE, AUTO REFRESH and PRECHARGE are seldom, and take the four; ACTIVE, and a READ or WRITE
-// with auto precharge, change their own alone.
+// The banks after the command. ACTIVE, and a READ or WRITE with auto precharge, change their own alone; LOAD MODE, AUTO REFRESH and
+// PRECHARGE are seldom, and take the four.
 pub fn move_banks(
     k: Command,
     t: SpeedTable,
@@ -139,14 +138,7 @@ pub fn move_banks(
     requires { ⌜ Bounds t × FitPeriod period × BanksFit (banks-in (now held)) × (n .0 ≤ clock-max) × (r .ba < 4) × (Packed (now held)) ⌝ }
     ensures { λ _. ⌜ Held (now (held .exit)) (commanded k t period (burst-end k t period (word-in (startup .register)) n) (begun startup) r n (at period n) (banks-in (now (held .entry)))) ⌝ }
 {
-    let code = layout::code_of(k);
-    if code < 3 {
-        let all = numbers::banks(held);
-        let moved = leaving::banks_moved(k, t, period, startup, r, n, all);
-        numbers::put_banks(held, moved);
-        return;
-    }
-    if code == 3 {
+    if layout::is(k, Command::Active) {
         let opened = leaving::activated(r.addr, n);
         numbers::put_bank(held, r.ba, opened);
         return;
@@ -155,6 +147,12 @@ pub fn move_banks(
         let status = numbers::status(held, r.ba);
         let closed = leaving::self_closed(k, t, period, startup, n, status);
         numbers::put_status(held, r.ba, closed);
+        return;
+    }
+    if layout::looks_at_all(k) {
+        let all = numbers::banks(held);
+        let moved = leaving::banks_moved(k, t, period, startup, r, n, all);
+        numbers::put_banks(held, moved);
     }
 }
 

@@ -17,7 +17,7 @@ pub fn burst_end(k: Command, t: SpeedTable, period: Ps, word: u16, n: Clock) -> 
     requires { ⌜ Bounds t × FitPeriod period × (n .0 ≤ clock-max) ⌝ }
     ensures { λ r. ⌜ r ≡ burst-end k t period word n ⌝ }
 {
-    if layout::code_of(k) == 4 {
+    if layout::is(k, Command::Write) {
         let length = mode::write_length(word) as u64;
         let end = time::at(period, Clock(n.0 + length));
         return Ps(end.0 + t.addition.0);
@@ -42,7 +42,7 @@ pub fn ends_by_itself(k: Command, word: u16) -> bool
 {
     let full = mode::full_page(word);
     let single = mode::single(word);
-    !full | ((layout::code_of(k) == 4) & single)
+    !full | (layout::is(k, Command::Write) & single)
 }
 
 // A READ or WRITE with auto precharge.

@@ -75,14 +75,13 @@ fn register_if(x: bool, word: u16, n: Clock, old: Register) -> Register
 pub fn startup_after(k: Command, r: Record, n: Clock, u: StartUp) -> StartUp
     ensures { λ x. ⌜ x ≡ startup-after k r n u ⌝ }
 {
-    let code = layout::code_of(k);
     let every = layout::a10(r.addr);
     let all = u.allclosed;
     let old = u.refreshes;
     let loaded = u.register;
-    let allclosed = event_if((code == 2) & every, n, all);
-    let refreshes = refreshes_if(code == 1, n, old);
-    let register = register_if(code == 0, r.addr, n, loaded);
+    let allclosed = event_if(layout::is(k, Command::Precharge) & every, n, all);
+    let refreshes = refreshes_if(layout::is(k, Command::Refresh), n, old);
+    let register = register_if(layout::is(k, Command::LoadMode), r.addr, n, loaded);
     StartUp {
         allclosed,
         refreshes,
@@ -163,9 +162,8 @@ fn bank_after(
     requires { ⌜ Bounds t × FitPeriod period × FitBank b ⌝ }
     ensures { λ x. ⌜ x ≡ bank-after k t period end again r n moment i b ⌝ }
 {
-    let code = layout::code_of(k);
     let own = i == r.ba;
-    if (code == 3) & own {
+    if layout::is(k, Command::Active) & own {
         return activated(r.addr, n);
     }
     let status = b.status;
@@ -173,7 +171,7 @@ fn bank_after(
         return with_status(auto_closed(t, period, end, status), b);
     }
     let covered = layout::covers(r.addr, r.ba, i);
-    if (code == 2) & covered {
+    if layout::is(k, Command::Precharge) & covered {
         return with_status(precharged(again, moment, status), b);
     }
     b
@@ -183,8 +181,7 @@ fn bank_after(
 fn touches(k: Command, r: Record) -> bool
     ensures { λ x. ⌜ x ≡ (is k Active || (asks-auto k r || is k Precharge)) ⌝ }
 {
-    let code = layout::code_of(k);
-    (code == 3) | (closing::asks_auto(k, r) | (code == 2))
+    layout::is(k, Command::Active) | (closing::asks_auto(k, r) | layout::is(k, Command::Precharge))
 }
 
 // The banks after the command.

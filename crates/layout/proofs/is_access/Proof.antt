@@ -1,13 +1,16 @@
--- `layout::is_access` meets its contract: its callee's answer is the definition's. Assumes nothing.
+-- `layout::is_access` meets its contract: its callee's answers are the definition's. Assumes nothing.
 use borrow.Author.Needs.{needs}
 use Rattle.layout.proofs.is_access.Statement.{statement}
 use Rattle.layout.proofs.is_access.Tie as tie
 
-code-of-requires : tie.Need-code-of-requires
-code-of-requires c κs = search needs
+is-requires : tie.Need-is-requires
+is-requires c κs = search needs
+
+is-requires-2 : tie.Need-is-requires-2
+is-requires-2 c κs = search needs
 
 returns : tie.Need-returns
-returns c = rw (c .code-of .ensures)
+returns c = rw (c .is2 .ensures, c .before .is .ensures)
 
 pub is-access-spec : {M : Type 1} → statement M
-is-access-spec = tie.close (tie.spec code-of-requires returns)
+is-access-spec = tie.close (tie.spec is-requires is-requires-2 returns)

@@ -2,7 +2,6 @@ use Rattle.rules.specs.StartUp.{begun}
 use mathlib.Core.Bool.{false, _&&_}
 use mathlib.Core.Logic.{⊎-elim}
 use Rattle.asking.proofs.Ladders.{started, implied, burst-ladder}
-use Rattle.asking.proofs.Codes.{is-burst}
 use Rattle.rules.specs.Admitted.{FitBank}
 use Rattle.rules.specs.declared.Bank.{Bank}
 use mathlib.Core.Path.{_≡_, sym, subst, _∙_}
@@ -63,15 +62,15 @@ enum-told-2 c = search needs
 
 -- src/commands.rt:191:21
 returns : tie.Need-returns
-returns c = rw (burst-ladder _ (c .before .before .before .before .before .before .before .before .before .before .before .before .before .before .args .c) _ _ _ _ (c .before .before .before .before .before .before .before .before .before .before .before .before .before .before .args .k) (is-burst (c .before .before .before .before .before .before .before .before .before .before .before .before .before .before .args .k) (c .before .before .before .before .before .before .before .before .before .before .before .before .before .before .pre .2) (c .before .before .before .before .before .before .before .before .before .before .before .before .before .before .pre .3)), implied, ← c .before .before .before .before .before .before .before .before .before .before .before .begun .ensures, c .before .before .before .before .before .before .before .before .before .before .if1 .taken, ← c .before .before .before .before .before .before .before .before .before .started .ensures, c .before .before .before .before .before .before .before .before .if2 .taken, ← c .before .before .before .before .before .before .before .before .before .before .before .before .is-access .ensures, ← c .before .before .before .before .before .before .before .before .before .before .before .before .before .before .pre .1, ← c .before .before .before .before .before .before .before .is-open .ensures, c .before .before .before .before .before .before .if3 .taken, ← c .before .before .before .before .before .any-shorts .ensures, ← c .before .before .before .before .access-shorts .ensures, ← c .before .before .before .either .ensures, ← c .before .before .lowest .ensures, c .enum-told2 .given .1)
+returns c = rw (burst-ladder _ (c .before .before .before .before .before .before .before .before .before .before .before .before .before .before .args .c) _ _ _ _ (c .before .before .before .before .before .before .before .before .before .before .before .before .before .before .args .k) (c .before .before .before .before .before .before .before .before .before .before .before .before .before .before .pre .2), implied, ← c .before .before .before .before .before .before .before .before .before .before .before .begun .ensures, c .before .before .before .before .before .before .before .before .before .before .if1 .taken, ← c .before .before .before .before .before .before .before .before .before .started .ensures, c .before .before .before .before .before .before .before .before .if2 .taken, ← c .before .before .before .before .before .before .before .before .before .before .before .before .is-access .ensures, ← c .before .before .before .before .before .before .before .before .before .before .before .before .before .before .pre .1, ← c .before .before .before .before .before .before .before .is-open .ensures, c .before .before .before .before .before .before .if3 .taken, ← c .before .before .before .before .before .any-shorts .ensures, ← c .before .before .before .before .access-shorts .ensures, ← c .before .before .before .either .ensures, ← c .before .before .lowest .ensures, c .enum-told2 .given .1)
 
 -- src/commands.rt:193:17
 bus-verdict-requires : tie.Need-bus-verdict-requires
-bus-verdict-requires c κs = (c .before .before .before .before .before .before .before .before .before .before .before .before .before .before .pre .0 .table, c .before .before .before .before .before .before .before .before .before .before .before .before .before .before .pre .0 .period, subst (λ (b : Bank). FitBank b) (sym (c .before .before .before .before .before .before .before .before .before .before .before .before .before .before .pre .1)) (c .before .before .before .before .before .before .before .before .before .before .before .before .before .before .pre .0 .banks .each (c .before .before .before .before .before .before .before .before .before .before .before .before .before .before .args .r .ba)) .status, c .before .before .before .before .before .before .before .before .before .before .before .before .before .before .pre .4, c .before .before .before .before .before .before .before .before .before .before .before .before .before .before .pre .2, c .before .before .before .before .before .before .before .before .before .before .before .before .before .before .pre .3)
+bus-verdict-requires c κs = (c .before .before .before .before .before .before .before .before .before .before .before .before .before .before .pre .0 .table, c .before .before .before .before .before .before .before .before .before .before .before .before .before .before .pre .0 .period, subst (λ (b : Bank). FitBank b) (sym (c .before .before .before .before .before .before .before .before .before .before .before .before .before .before .pre .1)) (c .before .before .before .before .before .before .before .before .before .before .before .before .before .before .pre .0 .banks .each (c .before .before .before .before .before .before .before .before .before .before .before .before .before .before .args .r .ba)) .status, c .before .before .before .before .before .before .before .before .before .before .before .before .before .before .pre .3, c .before .before .before .before .before .before .before .before .before .before .before .before .before .before .pre .2)
 
 -- src/commands.rt:193:17
 returns-2 : tie.Need-returns-2
-returns-2 c = rw (c .bus-verdict .ensures, burst-ladder _ (c .before .before .before .before .before .before .before .before .before .before .before .before .before .before .before .args .c) _ _ _ _ (c .before .before .before .before .before .before .before .before .before .before .before .before .before .before .before .args .k) (is-burst (c .before .before .before .before .before .before .before .before .before .before .before .before .before .before .before .args .k) (c .before .before .before .before .before .before .before .before .before .before .before .before .before .before .before .pre .2) (c .before .before .before .before .before .before .before .before .before .before .before .before .before .before .before .pre .3)), implied, ← c .before .before .before .before .before .before .before .before .before .before .before .before .begun .ensures, c .before .before .before .before .before .before .before .before .before .before .before .if1 .taken, ← c .before .before .before .before .before .before .before .before .before .before .started .ensures, c .before .before .before .before .before .before .before .before .before .if2 .taken, ← c .before .before .before .before .before .before .before .before .before .before .before .before .before .is-access .ensures, ← c .before .before .before .before .before .before .before .before .before .before .before .before .before .before .before .pre .1, ← c .before .before .before .before .before .before .before .before .is-open .ensures, c .before .before .before .before .before .before .before .if3 .taken, ← c .before .before .before .before .before .before .any-shorts .ensures, ← c .before .before .before .before .before .access-shorts .ensures, ← c .before .before .before .before .either .ensures, ← c .before .before .before .lowest .ensures, c .before .enum-told .given .1)
+returns-2 c = rw (c .bus-verdict .ensures, burst-ladder _ (c .before .before .before .before .before .before .before .before .before .before .before .before .before .before .before .args .c) _ _ _ _ (c .before .before .before .before .before .before .before .before .before .before .before .before .before .before .before .args .k) (c .before .before .before .before .before .before .before .before .before .before .before .before .before .before .before .pre .2), implied, ← c .before .before .before .before .before .before .before .before .before .before .before .before .begun .ensures, c .before .before .before .before .before .before .before .before .before .before .before .if1 .taken, ← c .before .before .before .before .before .before .before .before .before .before .started .ensures, c .before .before .before .before .before .before .before .before .before .if2 .taken, ← c .before .before .before .before .before .before .before .before .before .before .before .before .before .is-access .ensures, ← c .before .before .before .before .before .before .before .before .before .before .before .before .before .before .before .pre .1, ← c .before .before .before .before .before .before .before .before .is-open .ensures, c .before .before .before .before .before .before .before .if3 .taken, ← c .before .before .before .before .before .before .any-shorts .ensures, ← c .before .before .before .before .before .access-shorts .ensures, ← c .before .before .before .before .either .ensures, ← c .before .before .before .lowest .ensures, c .before .enum-told .given .1)
 
 -- src/commands.rt:195:13
 refused-requires : tie.Need-refused-requires
@@ -79,7 +78,7 @@ refused-requires c κs = search needs
 
 -- src/commands.rt:195:13
 returns-3 : tie.Need-returns-3
-returns-3 c = rw (c .refused .ensures, burst-ladder _ (c .before .before .before .before .before .before .before .before .before .args .c) _ _ _ _ (c .before .before .before .before .before .before .before .before .before .args .k) (is-burst (c .before .before .before .before .before .before .before .before .before .args .k) (c .before .before .before .before .before .before .before .before .before .pre .2) (c .before .before .before .before .before .before .before .before .before .pre .3)), implied, ← c .before .before .before .before .before .before .begun .ensures, c .before .before .before .before .before .if1 .taken, ← c .before .before .before .before .started .ensures, c .before .before .before .if2 .taken, ← c .before .before .before .before .before .before .before .is-access .ensures, ← c .before .before .before .before .before .before .before .before .before .pre .1, ← c .before .before .is-open .ensures, c .before .if3 .left)
+returns-3 c = rw (c .refused .ensures, burst-ladder _ (c .before .before .before .before .before .before .before .before .before .args .c) _ _ _ _ (c .before .before .before .before .before .before .before .before .before .args .k) (c .before .before .before .before .before .before .before .before .before .pre .2), implied, ← c .before .before .before .before .before .before .begun .ensures, c .before .before .before .before .before .if1 .taken, ← c .before .before .before .before .started .ensures, c .before .before .before .if2 .taken, ← c .before .before .before .before .before .before .before .is-access .ensures, ← c .before .before .before .before .before .before .before .before .before .pre .1, ← c .before .before .is-open .ensures, c .before .if3 .left)
 
 -- src/commands.rt:198:5
 refused-requires-2 : tie.Need-refused-requires-2
@@ -87,7 +86,7 @@ refused-requires-2 c κs = search needs
 
 -- src/commands.rt:168:1
 returns-4 : tie.Need-returns-4
-returns-4 c = let u = c .before .before .before .before .before .args .c .startup in let e : (begun u && started u) ≡ false = ⊎-elim (λ w. rw (sym (c .before .before .begun .ensures) ∙ w .0 .taken, sym (w .1 .ensures) ∙ w .2 .left)) (λ w. rw (sym (c .before .before .begun .ensures) ∙ w .left)) (c .before .if1 .came) in rw (c .refused2 .ensures, burst-ladder _ (c .before .before .before .before .before .args .c) _ _ _ _ (c .before .before .before .before .before .args .k) (is-burst (c .before .before .before .before .before .args .k) (c .before .before .before .before .before .pre .2) (c .before .before .before .before .before .pre .3)), e)
+returns-4 c = let u = c .before .before .before .before .before .args .c .startup in let e : (begun u && started u) ≡ false = ⊎-elim (λ w. rw (sym (c .before .before .begun .ensures) ∙ w .0 .taken, sym (w .1 .ensures) ∙ w .2 .left)) (λ w. rw (sym (c .before .before .begun .ensures) ∙ w .left)) (c .before .if1 .came) in rw (c .refused2 .ensures, burst-ladder _ (c .before .before .before .before .before .args .c) _ _ _ _ (c .before .before .before .before .before .args .k) (c .before .before .before .before .before .pre .2), e)
 
 pub ask-burst-spec : {M : Type 1} → statement M
 ask-burst-spec =

@@ -6,23 +6,23 @@ use Rattle.asking.proofs.commands.ask_first.Reads as reads
 use Rattle.asking.proofs.commands.ask_first.Lts as lts
 use Rattle.rules.proofs.Verdict.refused.Reads as refused-reads
 use Rattle.layout.proofs.a10.Reads as a10-reads
-use Rattle.layout.proofs.code_of.Reads as code-of-reads
+use Rattle.layout.proofs.is.Reads as is-reads
 
 a10-requires : tie.Need-a10-requires
 a10-requires c κs = search needs
 
-code-of-requires : tie.Need-code-of-requires
-code-of-requires c κs = search needs
+is-requires : tie.Need-is-requires
+is-requires c κs = search needs
 
 returns : tie.Need-returns
-returns c = rw (unbegun _ (c .before .before .before .before .args .c) _ _ _ _ _ (c .before .before .before .before .pre), ← c .before .before .code-of .ensures, ← c .before .before .before .a10 .ensures, c .if1 .taken)
+returns c = rw (unbegun _ (c .before .before .before .before .args .c) _ _ _ _ _ (c .before .before .before .before .pre), ← c .before .before .is .ensures, ← c .before .before .before .a10 .ensures, c .if1 .taken)
 
 refused-requires : tie.Need-refused-requires
 refused-requires c κs = search needs
 
 returns-2 : tie.Need-returns-2
-returns-2 c = rw (c .refused .ensures, unbegun _ (c .before .before .before .before .before .args .c) _ _ _ _ _ (c .before .before .before .before .before .pre), ← c .before .before .before .code-of .ensures, ← c .before .before .before .before .a10 .ensures, c .before .if1 .left)
+returns-2 c = rw (c .refused .ensures, unbegun _ (c .before .before .before .before .before .args .c) _ _ _ _ _ (c .before .before .before .before .before .pre), ← c .before .before .before .is .ensures, ← c .before .before .before .before .a10 .ensures, c .before .if1 .left)
 
 pub ask-first-spec : {M : Type 1} → statement M
 ask-first-spec =
-    tie.close (tie.spec a10-requires code-of-requires returns refused-requires returns-2)
+    tie.close (tie.spec a10-requires is-requires returns refused-requires returns-2)

@@ -1,4 +1,3 @@
-use Rattle.asking.proofs.Codes.{is-burst}
 use Rattle.asking.proofs.Ladders.{bus-ladder}
 use borrow.Author.Needs.{needs}
 use Rattle.asking.proofs.verdicts.bus_verdict.Statement.{statement}
@@ -29,11 +28,11 @@ auto-verdict-requires c κs = search needs
 
 -- src/verdicts.rt:104:17
 returns : tie.Need-returns
-returns c = rw (c .auto-verdict .ensures, bus-ladder (c .before .before .before .before .before .before .before .before .before .before .args .k) (is-burst (c .before .before .before .before .before .before .before .before .before .before .args .k) (c .before .before .before .before .before .before .before .before .before .before .pre .4) (c .before .before .before .before .before .before .before .before .before .before .pre .5)), ← c .before .before .before .before .before .before .bursts-finished .ensures, c .before .before .before .before .before .if1 .taken, ← c .before .before .before .before .clear-for .ensures, c .before .before .before .if2 .taken, ← c .before .before .asks-auto .ensures, c .before .if3 .taken)
+returns c = rw (c .auto-verdict .ensures, bus-ladder (c .before .before .before .before .before .before .before .before .before .before .args .k) (c .before .before .before .before .before .before .before .before .before .before .pre .4), ← c .before .before .before .before .before .before .bursts-finished .ensures, c .before .before .before .before .before .if1 .taken, ← c .before .before .before .before .clear-for .ensures, c .before .before .before .if2 .taken, ← c .before .before .asks-auto .ensures, c .before .if3 .taken)
 
 -- src/verdicts.rt:106:13
 returns-2 : tie.Need-returns-2
-returns-2 c = rw (bus-ladder (c .before .before .before .before .before .before .before .before .before .args .k) (is-burst (c .before .before .before .before .before .before .before .before .before .args .k) (c .before .before .before .before .before .before .before .before .before .pre .4) (c .before .before .before .before .before .before .before .before .before .pre .5)), ← c .before .before .before .before .before .bursts-finished .ensures, c .before .before .before .before .if1 .taken, ← c .before .before .before .clear-for .ensures, c .before .before .if2 .taken, ← c .before .asks-auto .ensures, c .if3 .left)
+returns-2 c = rw (bus-ladder (c .before .before .before .before .before .before .before .before .before .args .k) (c .before .before .before .before .before .before .before .before .before .pre .4), ← c .before .before .before .before .before .bursts-finished .ensures, c .before .before .before .before .if1 .taken, ← c .before .before .before .clear-for .ensures, c .before .before .if2 .taken, ← c .before .asks-auto .ensures, c .if3 .left)
 
 -- src/verdicts.rt:108:9
 refused-requires : tie.Need-refused-requires
@@ -41,7 +40,7 @@ refused-requires c κs = search needs
 
 -- src/verdicts.rt:108:9
 returns-3 : tie.Need-returns-3
-returns-3 c = rw (c .refused .ensures, bus-ladder (c .before .before .before .before .before .before .before .before .args .k) (is-burst (c .before .before .before .before .before .before .before .before .args .k) (c .before .before .before .before .before .before .before .before .pre .4) (c .before .before .before .before .before .before .before .before .pre .5)), ← c .before .before .before .before .bursts-finished .ensures, c .before .before .before .if1 .taken, ← c .before .before .clear-for .ensures, c .before .if2 .left)
+returns-3 c = rw (c .refused .ensures, bus-ladder (c .before .before .before .before .before .before .before .before .args .k) (c .before .before .before .before .before .before .before .before .pre .4), ← c .before .before .before .before .bursts-finished .ensures, c .before .before .before .if1 .taken, ← c .before .before .clear-for .ensures, c .before .if2 .left)
 
 -- src/verdicts.rt:110:5
 refused-requires-2 : tie.Need-refused-requires-2
@@ -49,7 +48,7 @@ refused-requires-2 c κs = search needs
 
 -- src/verdicts.rt:87:1
 returns-4 : tie.Need-returns-4
-returns-4 c = rw (c .refused2 .ensures, bus-ladder (c .before .before .before .before .before .before .args .k) (is-burst (c .before .before .before .before .before .before .args .k) (c .before .before .before .before .before .before .pre .4) (c .before .before .before .before .before .before .pre .5)), ← c .before .before .bursts-finished .ensures, c .before .if1 .left)
+returns-4 c = rw (c .refused2 .ensures, bus-ladder (c .before .before .before .before .before .before .args .k) (c .before .before .before .before .before .before .pre .4), ← c .before .before .bursts-finished .ensures, c .before .if1 .left)
 
 pub bus-verdict-spec : {M : Type 1} → statement M
 bus-verdict-spec =

@@ -9,7 +9,7 @@ use Rattle.bursts.proofs.reads.reads_after.Reads as reads
 use Rattle.bursts.proofs.Burst.at.Reads as at-reads
 use Rattle.bursts.proofs.Burst.cut_if.Reads as cut-if-reads
 use Rattle.bursts.proofs.Burst.to_come.Reads as to-come-reads
-use Rattle.bursts.proofs.cuts.is.Reads as is-reads
+use Rattle.layout.proofs.is.Reads as is-reads
 use Rattle.bursts.proofs.reads.can_end.Reads as can-end-reads
 use Rattle.bursts.proofs.reads.cut_each.Reads as cut-each-reads
 use Rattle.bursts.proofs.reads.room.Reads as room-reads

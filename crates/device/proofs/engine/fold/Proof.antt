@@ -195,7 +195,7 @@ held-at c =
     ⊎-elim {C = Held (c .if2 .held) (moved-banks a)} (λ w. subst (λ (l : List ℕ). Held l (moved-banks a)) (sym (w .5)) (w .2 .ensures))
     (λ w. subst (λ (l : List ℕ). Held l (moved-banks a)) (sym (w .2))
     (held-as (packed-held (a .before .before .before .before .before .before .before .before .before .loop .inv .3))
-    (banks-kept (command-at a) (sym (c .before .is-executable .ensures) ∙ w .0 .left) _ _ _ _ _ _ _ (st (at-record a) .banks) refl (widths (at-record a) .ba))))
+    (banks-kept (command-at a) (sym (c .before .is-executable .ensures) ∙ w .0 .left) _ _ _ _ _ _ _ (st (at-record a) .banks))))
     (c .if2 .came)
 
 -- the state that the turn leaves, and its beat

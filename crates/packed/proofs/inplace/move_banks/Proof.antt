@@ -19,7 +19,8 @@ use Rattle.packed.proofs.inplace.move_banks.Statement.{statement}
 use Rattle.packed.proofs.inplace.move_banks.Tie as tie
 use Rattle.packed.proofs.inplace.move_banks.Reads as reads
 use Rattle.packed.proofs.inplace.move_banks.Lts as lts
-use Rattle.layout.proofs.code_of.Reads as code-of-reads
+use Rattle.layout.proofs.is.Reads as is-reads
+use Rattle.layout.proofs.looks_at_all.Reads as looks-at-all-reads
 use Rattle.packed.proofs.numbers.banks.Reads as banks-reads
 use Rattle.packed.proofs.numbers.put_bank.Reads as put-bank-reads
 use Rattle.packed.proofs.numbers.put_banks.Reads as put-banks-reads
@@ -30,77 +31,67 @@ use Rattle.taking.proofs.leaving.banks_moved.Reads as banks-moved-reads
 use Rattle.rules.proofs.closing.asks_auto.Reads as asks-auto-reads
 use Rattle.taking.proofs.leaving.self_closed.Reads as self-closed-reads
 
--- src/inplace.rt:38:9
-code-of-requires : tie.Need-code-of-requires
-code-of-requires c κs = search needs
+is-requires : tie.Need-is-requires
+is-requires c κs = search needs
 
--- src/inplace.rt:40:13
-banks-requires : tie.Need-banks-requires
-banks-requires c κs = search needs
-
--- src/inplace.rt:41:13
-banks-moved-requires : tie.Need-banks-moved-requires
-banks-moved-requires c κs = (c .before .before .before .before .pre .0, c .before .before .before .before .pre .1, subst (λ (l : List Bank). BanksFit l) (sym (c .banks .ensures)) (c .before .before .before .before .pre .2), c .before .before .before .before .pre .3)
-
--- src/inplace.rt:42:9
-put-banks-requires : tie.Need-put-banks-requires
-put-banks-requires c κs = search needs
-
--- src/inplace.rt:43:9
-returns : tie.Need-returns
-returns c = held-as (c .put-banks .ensures) (rw (c .before .before .banks-moved .ensures, c .before .before .before .banks .ensures))
-
--- src/inplace.rt:46:13
 activated-requires : tie.Need-activated-requires
 activated-requires c κs = search needs
 
--- src/inplace.rt:47:9
 put-bank-requires : tie.Need-put-bank-requires
 put-bank-requires c κs = search needs
 
--- src/inplace.rt:48:9
-returns-2 : tie.Need-returns-2
-returns-2 c = held-as (c .put-bank .ensures) (rw (c .before .before .activated .ensures) (active-moved (c .before .before .before .before .before .before .args .k) (c .before .before .before .before .before .before .args .t) (c .before .before .before .before .before .before .args .period) (burst-end (c .before .before .before .before .before .before .args .k) (c .before .before .before .before .before .before .args .t) (c .before .before .before .before .before .before .args .period) (word-in (c .before .before .before .before .before .before .args .startup .register)) (c .before .before .before .before .before .before .args .n)) (begun (c .before .before .before .before .before .before .args .startup)) (c .before .before .before .before .before .before .args .r) (c .before .before .before .before .before .before .args .n) (at (c .before .before .before .before .before .before .args .period) (c .before .before .before .before .before .before .args .n)) (banks-in (c .before .before .before .before .before .before .args .held .now)) refl (c .before .before .before .before .before .before .pre .4) (sym (c .before .before .before .before .before .code-of .ensures) ∙ c .before .before .before .if2 .taken)))
+returns : tie.Need-returns
+returns c = let a = c .before .before .before .before .before .args in held-as (c .put-bank .ensures) (rw (c .before .before .activated .ensures) (active-moved (a .k) (a .t) (a .period) (burst-end (a .k) (a .t) (a .period) (word-in (a .startup .register)) (a .n)) (begun (a .startup)) (a .r) (a .n) (at (a .period) (a .n)) (banks-in (a .held .now)) refl (c .before .before .before .before .before .pre .4) (sym (c .before .before .before .before .is .ensures) ∙ c .before .before .before .if1 .taken)))
 
--- src/inplace.rt:50:8
 asks-auto-requires : tie.Need-asks-auto-requires
 asks-auto-requires c κs = search needs
 
--- src/inplace.rt:51:13
 status-requires : tie.Need-status-requires
 status-requires c κs = search needs
 
--- src/inplace.rt:52:13
 self-closed-requires : tie.Need-self-closed-requires
-self-closed-requires c κs = (c .before .before .before .before .before .before .before .pre .0, c .before .before .before .before .before .before .before .pre .1, subst (λ (x : Status). FitStatus x) (ap (λ (b : Bank). b .status) (bank-held (c .before .before .before .before .before .before .before .args .held .now) (c .before .before .before .before .before .before .before .args .r .ba % 4) (omega arith)) ∙ sym (c .status .ensures)) (c .before .before .before .before .before .before .before .pre .2 .each (c .before .before .before .before .before .before .before .args .r .ba % 4) .status), c .before .before .before .before .before .before .before .pre .3)
+self-closed-requires c κs = let a = c .before .before .before .before .before .before .args in (c .before .before .before .before .before .before .pre .0, c .before .before .before .before .before .before .pre .1, subst (λ (x : Status). FitStatus x) (ap (λ (b : Bank). b .status) (bank-held (a .held .now) (a .r .ba % 4) (omega arith)) ∙ sym (c .status .ensures)) (c .before .before .before .before .before .before .pre .2 .each (a .r .ba % 4) .status), c .before .before .before .before .before .before .pre .3)
 
--- src/inplace.rt:53:9
 put-status-requires : tie.Need-put-status-requires
 put-status-requires c κs = search needs
 
--- src/inplace.rt:26:1
-returns-3 : tie.Need-returns-3
-returns-3 c = held-as (c .put-status .ensures) (rw (c .before .before .self-closed .ensures, c .before .before .before .status .ensures, ← bank-held (c .before .before .before .before .before .before .before .before .before .before .args .held .now) (c .before .before .before .before .before .before .before .before .before .before .args .r .ba % 4) (omega arith)) (auto-moved (c .before .before .before .before .before .before .before .before .before .before .args .k) (c .before .before .before .before .before .before .before .before .before .before .args .t) (c .before .before .before .before .before .before .before .before .before .before .args .period) (burst-end (c .before .before .before .before .before .before .before .before .before .before .args .k) (c .before .before .before .before .before .before .before .before .before .before .args .t) (c .before .before .before .before .before .before .before .before .before .before .args .period) (word-in (c .before .before .before .before .before .before .before .before .before .before .args .startup .register)) (c .before .before .before .before .before .before .before .before .before .before .args .n)) (begun (c .before .before .before .before .before .before .before .before .before .before .args .startup)) (c .before .before .before .before .before .before .before .before .before .before .args .r) (c .before .before .before .before .before .before .before .before .before .before .args .n) (at (c .before .before .before .before .before .before .before .before .before .before .args .period) (c .before .before .before .before .before .before .before .before .before .before .args .n)) (banks-in (c .before .before .before .before .before .before .before .before .before .before .args .held .now)) refl (c .before .before .before .before .before .before .before .before .before .before .pre .4) (omega (arith, c .before .before .before .before .before .before .before .before .before .code-of .ensures, c .before .before .before .before .before .before .before .before .if1 .left, c .before .before .before .before .before .before .before .if2 .left)) (sym (c .before .before .before .before .before .before .asks-auto .ensures) ∙ c .before .before .before .before .before .if3 .taken)))
+returns-2 : tie.Need-returns-2
+returns-2 c = let a = c .before .before .before .before .before .before .before .before .before .args in held-as (c .put-status .ensures) (rw (c .before .before .self-closed .ensures, c .before .before .before .status .ensures, ← bank-held (a .held .now) (a .r .ba % 4) (omega arith)) (auto-moved (a .k) (a .t) (a .period) (burst-end (a .k) (a .t) (a .period) (word-in (a .startup .register)) (a .n)) (begun (a .startup)) (a .r) (a .n) (at (a .period) (a .n)) (banks-in (a .held .now)) refl (c .before .before .before .before .before .before .before .before .before .pre .4) (sym (c .before .before .before .before .before .before .before .before .is .ensures) ∙ c .before .before .before .before .before .before .before .if1 .left) (sym (c .before .before .before .before .before .before .asks-auto .ensures) ∙ c .before .before .before .before .before .if2 .taken)))
 
--- src/inplace.rt:26:1
+looks-at-all-requires : tie.Need-looks-at-all-requires
+looks-at-all-requires c κs = search needs
+
+banks-requires : tie.Need-banks-requires
+banks-requires c κs = search needs
+
+banks-moved-requires : tie.Need-banks-moved-requires
+banks-moved-requires c κs = (c .before .before .before .before .before .before .before .before .pre .0, c .before .before .before .before .before .before .before .before .pre .1, subst (λ (l : List Bank). BanksFit l) (sym (c .banks .ensures)) (c .before .before .before .before .before .before .before .before .pre .2), c .before .before .before .before .before .before .before .before .pre .3)
+
+put-banks-requires : tie.Need-put-banks-requires
+put-banks-requires c κs = search needs
+
+returns-3 : tie.Need-returns-3
+returns-3 c = held-as (c .put-banks .ensures) (rw (c .before .before .banks-moved .ensures, c .before .before .before .banks .ensures))
+
 returns-4 : tie.Need-returns-4
-returns-4 c = held-as (packed-held (c .before .before .before .before .before .pre .5)) (none-moved (c .before .before .before .before .before .args .k) (c .before .before .before .before .before .args .t) (c .before .before .before .before .before .args .period) (burst-end (c .before .before .before .before .before .args .k) (c .before .before .before .before .before .args .t) (c .before .before .before .before .before .args .period) (word-in (c .before .before .before .before .before .args .startup .register)) (c .before .before .before .before .before .args .n)) (begun (c .before .before .before .before .before .args .startup)) (c .before .before .before .before .before .args .r) (c .before .before .before .before .before .args .n) (at (c .before .before .before .before .before .args .period) (c .before .before .before .before .before .args .n)) (banks-in (c .before .before .before .before .before .args .held .now)) refl (c .before .before .before .before .before .pre .4) (omega (arith, c .before .before .before .before .code-of .ensures, c .before .before .before .if1 .left, c .before .before .if2 .left)) (sym (c .before .asks-auto .ensures) ∙ c .if3 .left))
+returns-4 c = let a = c .before .before .before .before .before .before .args in held-as (packed-held (c .before .before .before .before .before .before .pre .5)) (none-moved (a .k) (a .t) (a .period) (burst-end (a .k) (a .t) (a .period) (word-in (a .startup .register)) (a .n)) (begun (a .startup)) (a .r) (a .n) (at (a .period) (a .n)) (banks-in (a .held .now)) refl (c .before .before .before .before .before .before .pre .4) (sym (c .before .before .before .before .before .is .ensures) ∙ c .before .before .before .before .if1 .left) (sym (c .before .before .before .asks-auto .ensures) ∙ c .before .before .if2 .left) (sym (c .before .looks-at-all .ensures) ∙ c .if3 .left))
 
 pub move-banks-spec : {M : Type 1} → statement M
 move-banks-spec =
     tie.close
     (tie.spec
-    code-of-requires
-    banks-requires
-    banks-moved-requires
-    put-banks-requires
-    returns
+    is-requires
     activated-requires
     put-bank-requires
-    returns-2
+    returns
     asks-auto-requires
     status-requires
     self-closed-requires
     put-status-requires
+    returns-2
+    looks-at-all-requires
+    banks-requires
+    banks-moved-requires
+    put-banks-requires
     returns-3
     returns-4)

@@ -1,4 +1,3 @@
-use borrow.Author.Tests.{eq-eqb, ne-eqb}
 use native.Mathlib.Omega.{arith}
 use Rattle.rules.proofs.Times.{time-most}
 use borrow.Author.Needs.{needs}
@@ -7,12 +6,12 @@ use Rattle.rules.proofs.closing.burst_end.Tie as tie
 use Rattle.rules.proofs.closing.burst_end.Reads as reads
 use Rattle.rules.proofs.closing.burst_end.Lts as lts
 use Rattle.units.proofs.time.at.Reads as at-reads
-use Rattle.layout.proofs.code_of.Reads as code-of-reads
+use Rattle.layout.proofs.is.Reads as is-reads
 use Rattle.mode.proofs.length_of.Reads as length-of-reads
 use Rattle.mode.proofs.write_length.Reads as write-length-reads
 
-code-of-requires : tie.Need-code-of-requires
-code-of-requires c κs = search needs
+is-requires : tie.Need-is-requires
+is-requires c κs = search needs
 
 write-length-requires : tie.Need-write-length-requires
 write-length-requires c κs = search needs
@@ -30,7 +29,7 @@ add-t12-2 : tie.Need-add-t12-2
 add-t12-2 c = omega (arith, time-most (c .before .before .at .ensures) (omega arith) (c .before .before .before .before .before .before .before .pre .1), c .before .before .before .before .before .before .before .pre .0 .addition)
 
 returns : tie.Need-returns
-returns c = rw (c .before .before .at .ensures, c .before .before .before .before .write-length .ensures, ← c .before .before .before .before .before .before .code-of .ensures, eq-eqb _ _ (c .before .before .before .before .before .if1 .taken))
+returns c = rw (c .before .before .at .ensures, c .before .before .before .before .write-length .ensures, ← c .before .before .before .before .before .before .is .ensures, c .before .before .before .before .before .if1 .taken)
 
 length-of-requires : tie.Need-length-of-requires
 length-of-requires c κs = search needs
@@ -45,13 +44,13 @@ at-requires-2 : tie.Need-at-requires-2
 at-requires-2 c κs = search needs
 
 returns-2 : tie.Need-returns-2
-returns-2 c = rw (c .at2 .ensures, c .before .before .length-of .ensures, ← c .before .before .before .before .code-of .ensures, ne-eqb _ _ (c .before .before .before .if1 .left))
+returns-2 c = rw (c .at2 .ensures, c .before .before .length-of .ensures, ← c .before .before .before .before .is .ensures, c .before .before .before .if1 .left)
 
 pub burst-end-spec : {M : Type 1} → statement M
 burst-end-spec =
     tie.close
     (tie.spec
-    code-of-requires
+    is-requires
     write-length-requires
     cast-length
     add-t12

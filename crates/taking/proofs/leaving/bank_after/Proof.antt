@@ -9,66 +9,57 @@ use Rattle.taking.proofs.leaving.auto_closed.Reads as auto-closed-reads
 use Rattle.rules.proofs.closing.asks_auto.Reads as asks-auto-reads
 use Rattle.taking.proofs.leaving.precharged.Reads as precharged-reads
 use Rattle.taking.proofs.leaving.with_status.Reads as with-status-reads
-use Rattle.layout.proofs.code_of.Reads as code-of-reads
+use Rattle.layout.proofs.is.Reads as is-reads
 use Rattle.layout.proofs.covers.Reads as covers-reads
 
--- src/leaving.rt:201:9
-code-of-requires : tie.Need-code-of-requires
-code-of-requires c κs = search needs
+is-requires : tie.Need-is-requires
+is-requires c κs = search needs
 
--- src/leaving.rt:204:9
 activated-requires : tie.Need-activated-requires
 activated-requires c κs = search needs
 
--- src/leaving.rt:204:9
 returns : tie.Need-returns
 unfolding bank-after
-returns c = rw (c .activated .ensures, ← c .before .before .before .code-of .ensures, c .before .if1 .taken)
+returns c = rw (c .activated .ensures, ← c .before .before .is .ensures, c .before .if1 .taken)
 
--- src/leaving.rt:207:8
 asks-auto-requires : tie.Need-asks-auto-requires
 asks-auto-requires c κs = search needs
 
--- src/leaving.rt:208:28
 auto-closed-requires : tie.Need-auto-closed-requires
 auto-closed-requires c κs = search needs
 
--- src/leaving.rt:208:9
 with-status-requires : tie.Need-with-status-requires
 with-status-requires c κs = search needs
 
--- src/leaving.rt:208:9
 returns-2 : tie.Need-returns-2
 unfolding bank-after
-returns-2 c = rw (c .with-status .ensures, c .before .auto-closed .ensures, ← c .before .before .before .asks-auto .ensures, ← c .before .before .before .before .before .before .code-of .ensures, c .before .before .before .before .if1 .left, c .before .before .if2 .taken)
+returns-2 c = rw (c .with-status .ensures, c .before .auto-closed .ensures, ← c .before .before .before .asks-auto .ensures, ← c .before .before .before .before .before .is .ensures, c .before .before .before .before .if1 .left, c .before .before .if2 .taken)
 
--- src/leaving.rt:210:9
 covers-requires : tie.Need-covers-requires
 covers-requires c κs = search needs
 
--- src/leaving.rt:212:28
+is-requires-2 : tie.Need-is-requires-2
+is-requires-2 c κs = search needs
+
 precharged-requires : tie.Need-precharged-requires
 precharged-requires c κs = search needs
 
--- src/leaving.rt:212:9
 with-status-requires-2 : tie.Need-with-status-requires-2
 with-status-requires-2 c κs = search needs
 
--- src/leaving.rt:212:9
 returns-3 : tie.Need-returns-3
 unfolding bank-after
-returns-3 c = rw (c .with-status2 .ensures, c .before .precharged .ensures, ← c .before .before .before .before .before .asks-auto .ensures, ← c .before .before .before .before .before .before .before .before .code-of .ensures, ← c .before .before .before .covers .ensures, c .before .before .before .before .before .before .if1 .left, c .before .before .before .before .if2 .left, c .before .before .if3 .taken)
+returns-3 c = rw (c .with-status2 .ensures, c .before .precharged .ensures, ← c .before .before .before .before .before .before .asks-auto .ensures, ← c .before .before .before .before .before .before .before .before .is .ensures, ← c .before .before .before .is2 .ensures, ← c .before .before .before .before .covers .ensures, c .before .before .before .before .before .before .before .if1 .left, c .before .before .before .before .before .if2 .left, c .before .before .if3 .taken)
 
--- src/leaving.rt:186:1
 returns-4 : tie.Need-returns-4
 unfolding bank-after
-returns-4 c = rw (← c .before .before .before .asks-auto .ensures, ← c .before .before .before .before .before .before .code-of .ensures, ← c .before .covers .ensures, c .before .before .before .before .if1 .left, c .before .before .if2 .left, c .if3 .left)
+returns-4 c = rw (← c .before .before .before .before .asks-auto .ensures, ← c .before .before .before .before .before .before .is .ensures, ← c .before .is2 .ensures, ← c .before .before .covers .ensures, c .before .before .before .before .before .if1 .left, c .before .before .before .if2 .left, c .if3 .left)
 
 pub bank-after-spec : {M : Type 1} → statement M
 bank-after-spec =
     tie.close
     (tie.spec
-    code-of-requires
+    is-requires
     activated-requires
     returns
     asks-auto-requires
@@ -76,6 +67,7 @@ bank-after-spec =
     with-status-requires
     returns-2
     covers-requires
+    is-requires-2
     precharged-requires
     with-status-requires-2
     returns-3

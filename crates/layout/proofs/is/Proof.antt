@@ -1,7 +1,7 @@
--- `bursts::cuts::is` meets its contract: its callees' answers are the definition's. Assumes nothing.
+-- `layout::is` meets its contract: its callees' answers are the definition's. Assumes nothing.
 use borrow.Author.Needs.{needs}
-use Rattle.bursts.proofs.cuts.is.Statement.{statement}
-use Rattle.bursts.proofs.cuts.is.Tie as tie
+use Rattle.layout.proofs.is.Statement.{statement}
+use Rattle.layout.proofs.is.Tie as tie
 
 code-of-requires : tie.Need-code-of-requires
 code-of-requires c κs = search needs
