@@ -1,3 +1,6 @@
+use Rattle.layout.specs.Commands.{is}
+use Rattle.layout.specs.declared.Command.the-variants.{Precharge}
+use mathlib.Core.Path.{_≡_}
 use Rattle.asking.proofs.Ladders.{unbegun}
 use borrow.Author.Needs.{needs}
 use Rattle.asking.proofs.commands.ask_first.Statement.{statement}
@@ -15,13 +18,13 @@ is-requires : tie.Need-is-requires
 is-requires c κs = search needs
 
 returns : tie.Need-returns
-returns c = rw (unbegun _ (c .before .before .before .before .args .c) _ _ _ _ _ (c .before .before .before .before .pre), ← c .before .before .is .ensures, ← c .before .before .before .a10 .ensures, c .if1 .taken)
+returns c = let a = c .before .before .before .before .args in let told : c .before .before .is .result ≡ is (a .k) Precharge = c .before .before .is .ensures in rw (unbegun _ (a .c) _ _ _ _ _ (c .before .before .before .before .pre), ← told, ← c .before .before .before .a10 .ensures, c .if1 .taken)
 
 refused-requires : tie.Need-refused-requires
 refused-requires c κs = search needs
 
 returns-2 : tie.Need-returns-2
-returns-2 c = rw (c .refused .ensures, unbegun _ (c .before .before .before .before .before .args .c) _ _ _ _ _ (c .before .before .before .before .before .pre), ← c .before .before .before .is .ensures, ← c .before .before .before .before .a10 .ensures, c .before .if1 .left)
+returns-2 c = let a = c .before .before .before .before .before .args in let told : c .before .before .before .is .result ≡ is (a .k) Precharge = c .before .before .before .is .ensures in rw (c .refused .ensures, unbegun _ (a .c) _ _ _ _ _ (c .before .before .before .before .before .pre), ← told, ← c .before .before .before .before .a10 .ensures, c .before .if1 .left)
 
 pub ask-first-spec : {M : Type 1} → statement M
 ask-first-spec =

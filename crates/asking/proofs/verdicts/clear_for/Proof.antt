@@ -1,3 +1,7 @@
+use Rattle.layout.specs.Commands.{is}
+use Rattle.layout.specs.declared.Command.the-variants.{Write}
+use mathlib.Core.Bool.{true, false}
+use mathlib.Core.Path.{_≡_, sym, _∙_}
 use borrow.Author.Needs.{needs}
 use Rattle.asking.proofs.verdicts.clear_for.Statement.{statement}
 use Rattle.asking.proofs.verdicts.clear_for.Tie as tie
@@ -13,10 +17,10 @@ bus-clear-requires : tie.Need-bus-clear-requires
 bus-clear-requires c κs = search needs
 
 returns : tie.Need-returns
-returns c = rw (← c .before .before .before .before .before .is .ensures, c .before .before .before .before .if1 .taken) (c .bus-clear .ensures)
+returns c = let a = c .before .before .before .before .before .before .args in let write : is (a .k) Write ≡ true = sym (c .before .before .before .before .before .is .ensures) ∙ c .before .before .before .before .if1 .taken in rw write (c .bus-clear .ensures)
 
 returns-2 : tie.Need-returns-2
-returns-2 c = rw (← c .before .is .ensures, c .if1 .left)
+returns-2 c = let a = c .before .before .args in let other : is (a .k) Write ≡ false = sym (c .before .is .ensures) ∙ c .if1 .left in rw other
 
 pub clear-for-spec : {M : Type 1} → statement M
 clear-for-spec = tie.close (tie.spec is-requires bus-clear-requires returns returns-2)

@@ -1,9 +1,11 @@
+use Rattle.rules.specs.Banks.{every, open-within}
+use mathlib.Core.Bool.{true}
 use Rattle.packed.specs.Packed.{banks-in}
 use Rattle.asking.proofs.Moment.{moment-then-13}
 use Rattle.asking.proofs.Ladders.{first-join}
 use Rattle.rules.proofs.Kept.{every-clock}
 use Rattle.rules.specs.Rules.{rules}
-use mathlib.Core.Path.{sym, _∙_}
+use mathlib.Core.Path.{_≡_, sym, _∙_}
 use borrow.Author.Needs.{needs}
 use Rattle.packed.proofs.inplace.ask.Statement.{statement}
 use Rattle.packed.proofs.inplace.ask.Tie as tie
@@ -41,7 +43,7 @@ rows-within-requires c κs = search needs
 
 -- src/inplace.rt:94:9
 ask-command-requires : tie.Need-ask-command-requires
-ask-command-requires c κs = (c .before .before .before .before .before .before .before .pre .0, every-clock (c .before .before .before .before .before .before .before .args .t) (c .before .before .before .before .before .before .before .args .c .period) (c .before .before .before .before .before .before .before .args .c .startup .refreshes) (banks-in (c .before .before .before .before .before .before .before .args .held .now)) (c .before .before .before .before .before .before .before .args .r) (c .before .before .before .before .before .before .before .args .n) (c .before .before .before .before .before .before .at .result) (rw (moment-then-13 (c .before .before .before .before .before .before .before .args .t) (c .before .before .before .before .before .before .before .args .c .period) (c .before .before .before .before .before .before .before .args .c .startup .refreshes) (banks-in (c .before .before .before .before .before .before .before .args .held .now)) (c .before .before .before .before .before .before .before .args .r) (c .before .before .before .before .before .before .before .args .n) (c .before .before .before .before .before .before .at .result), sym (c .before .before .before .before .ask-moment .ensures) ∙ c .before .before .enum-told .given .1, sym (c .before .rows-within .ensures) ∙ c .if1 .taken)))
+ask-command-requires c κs = let a = c .before .before .before .before .before .before .before .args in let l = banks-in (a .held .now) in let within : every (λ b. open-within (a .c .period) (a .t .trasmax) (c .before .before .before .before .before .before .at .result) (b .status)) l ≡ true = sym (c .before .rows-within .ensures) ∙ c .if1 .taken in (c .before .before .before .before .before .before .before .pre .0, every-clock (a .t) (a .c .period) (a .c .startup .refreshes) l (a .r) (a .n) (c .before .before .before .before .before .before .at .result) (rw (moment-then-13 (a .t) (a .c .period) (a .c .startup .refreshes) l (a .r) (a .n) (c .before .before .before .before .before .before .at .result), sym (c .before .before .before .before .ask-moment .ensures) ∙ c .before .before .enum-told .given .1, within)))
 
 -- src/inplace.rt:94:9
 returns-2 : tie.Need-returns-2

@@ -1,3 +1,7 @@
+use Rattle.layout.specs.Commands.{is}
+use Rattle.layout.specs.declared.Command.the-variants.{Write}
+use mathlib.Core.Bool.{true, false}
+use mathlib.Core.Path.{_≡_, sym, _∙_}
 use native.Mathlib.Omega.{arith}
 use Rattle.rules.proofs.Times.{time-most}
 use borrow.Author.Needs.{needs}
@@ -29,7 +33,7 @@ add-t12-2 : tie.Need-add-t12-2
 add-t12-2 c = omega (arith, time-most (c .before .before .at .ensures) (omega arith) (c .before .before .before .before .before .before .before .pre .1), c .before .before .before .before .before .before .before .pre .0 .addition)
 
 returns : tie.Need-returns
-returns c = rw (c .before .before .at .ensures, c .before .before .before .before .write-length .ensures, ← c .before .before .before .before .before .before .is .ensures, c .before .before .before .before .before .if1 .taken)
+returns c = let a = c .before .before .before .before .before .before .before .args in let write : is (a .k) Write ≡ true = sym (c .before .before .before .before .before .before .is .ensures) ∙ c .before .before .before .before .before .if1 .taken in rw (c .before .before .at .ensures, c .before .before .before .before .write-length .ensures, write)
 
 length-of-requires : tie.Need-length-of-requires
 length-of-requires c κs = search needs
@@ -44,7 +48,7 @@ at-requires-2 : tie.Need-at-requires-2
 at-requires-2 c κs = search needs
 
 returns-2 : tie.Need-returns-2
-returns-2 c = rw (c .at2 .ensures, c .before .before .length-of .ensures, ← c .before .before .before .before .is .ensures, c .before .before .before .if1 .left)
+returns-2 c = let a = c .before .before .before .before .before .args in let other : is (a .k) Write ≡ false = sym (c .before .before .before .before .is .ensures) ∙ c .before .before .before .if1 .left in rw (c .at2 .ensures, c .before .before .length-of .ensures, other)
 
 pub burst-end-spec : {M : Type 1} → statement M
 burst-end-spec =

@@ -1,3 +1,6 @@
+use lib.Dec.{eqb}
+use mathlib.Core.Bool.{true, _&&_}
+use mathlib.Core.Path.{_≡_}
 use Rattle.rules.specs.After.{bank-after}
 use borrow.Author.Needs.{needs}
 use Rattle.taking.proofs.leaving.bank_after.Statement.{statement}
@@ -20,7 +23,7 @@ activated-requires c κs = search needs
 
 returns : tie.Need-returns
 unfolding bank-after
-returns c = rw (c .activated .ensures, ← c .before .before .is .ensures, c .before .if1 .taken)
+returns c = let a = c .before .before .before .before .args in let opens : (c .before .before .is .result && eqb (a .i) (a .r .ba)) ≡ true = c .before .if1 .taken in rw (c .activated .ensures, ← c .before .before .is .ensures, opens)
 
 asks-auto-requires : tie.Need-asks-auto-requires
 asks-auto-requires c κs = search needs
