@@ -14,7 +14,8 @@ use Rattle.rules.specs.declared.Bank.{Bank}
 use Rattle.rules.specs.Banks.{bank-at, row-of}
 use Rattle.rules.specs.After.{with-status, marked}
 use Rattle.rules.proofs.Four.{four}
-use Rattle.packed.specs.Packed.{event-in, status-in, bank-in, banks-in, event-kind, event-number, status-kind, status-clock, status-time, numbers-of, Held, Packed}
+use Rattle.words.specs.Words.{event-kind, event-number, status-kind, status-clock, status-time, banks-numbers}
+use Rattle.packed.specs.Packed.{event-in, status-in, bank-in, banks-in, Held, Packed}
 
 -- ── A list of 32 by its numbers ──
 
@@ -108,8 +109,8 @@ module _ (l : List ℕ) (g : Packed l) (i : ℕ) (h : i < 4) {p : ℕ} (hp : p �
         numbers =
             (λ j. put-status (g j) (hp j) (w .kind j) (w .row j) (w .on-clock j) (w .at-time j))
             ∙ by-place
-            (λ (i : ℕ). put-status (numbers-of (banks-in l)) (8 * i) (status-kind x) (row-of x) (status-clock x) (status-time x)
-            ≡ numbers-of (set (banks-in l) i (with-status x (bank-at (banks-in l) i))))
+            (λ (i : ℕ). put-status (banks-numbers (banks-in l)) (8 * i) (status-kind x) (row-of x) (status-clock x) (status-time x)
+            ≡ banks-numbers (set (banks-in l) i (with-status x (bank-at (banks-in l) i))))
             refl refl refl refl i h;
       }
 
@@ -120,7 +121,7 @@ module _ (l : List ℕ) (g : Packed l) (i : ℕ) (h : i < 4) {p : ℕ} (hp : p �
         numbers =
             (λ j. put-stored (g j) (hp j) 1 (n .0))
             ∙ by-place
-            (λ (i : ℕ). put-stored (numbers-of (banks-in l)) (8 * i) 1 (n .0) ≡ numbers-of (set (banks-in l) i (marked true n (bank-at (banks-in l) i))))
+            (λ (i : ℕ). put-stored (banks-numbers (banks-in l)) (8 * i) 1 (n .0) ≡ banks-numbers (set (banks-in l) i (marked true n (bank-at (banks-in l) i))))
             refl refl refl refl i h;
         banks =
             ap (λ (p : ℕ). banks-in (put-stored l p 1 (n .0))) hp
@@ -146,23 +147,23 @@ module _ (l : List ℕ) (g : Packed l) (i : ℕ) (h : i < 4) {p : ℕ} (hp : p �
             (ht .kind j) (ht .number j))
             ∙ by-place
             (λ (i : ℕ). put-stored
-            (put-active (put-status (numbers-of (banks-in l)) (8 * i) (status-kind (b .status)) (row-of (b .status)) (status-clock (b .status)) (status-time (b .status))) (8 * i)
+            (put-active (put-status (banks-numbers (banks-in l)) (8 * i) (status-kind (b .status)) (row-of (b .status)) (status-clock (b .status)) (status-time (b .status))) (8 * i)
             (event-kind (b .active)) (event-number (b .active)))
             (8 * i) (event-kind (b .stored)) (event-number (b .stored))
-            ≡ numbers-of (set (banks-in l) i b))
+            ≡ banks-numbers (set (banks-in l) i b))
             refl refl refl refl i h;
       }
 
 -- ── Banks that are held ──
 
 pub held-as : {l : List ℕ} {bs cs : List Bank} → Held l bs → bs ≡ cs → Held l cs
-held-as h e = record { banks = h .banks ∙ e; numbers = h .numbers ∙ ap numbers-of e }
+held-as h e = record { banks = h .banks ∙ e; numbers = h .numbers ∙ ap banks-numbers e }
 
 pub packed-held : {l : List ℕ} → Packed l → Held l (banks-in l)
 packed-held g = record { banks = refl; numbers = g }
 
 pub held-packed : {l : List ℕ} {bs : List Bank} → Held l bs → Packed l
-held-packed h = h .numbers ∙ ap numbers-of (sym (h .banks))
+held-packed h = h .numbers ∙ ap banks-numbers (sym (h .banks))
 
 -- ONE ANSWER ONLY: a promise that an array holds these banks fixes each of its numbers
 pub held-only : {l m : List ℕ} {bs : List Bank} → Held l bs → Held m bs → l ≡ m

@@ -1,9 +1,9 @@
--- The four banks as numbers in one list, eight to a bank, as the loop over records holds them. Each number is of one kind: a clock, a
--- time, a row, or which variant it is. Definitions only.
+-- The four banks read from numbers in one list, eight to a bank, as the loop over records holds them. The numbers of a bank are those of
+-- words/Words. Definitions only.
 use Prim.Native.Nat.{ℕ, _+_, _*_, _%_}
 use mathlib.Core.Path.{_≡_}
 use mathlib.Core.Bool.{cond}
-use mathlib.Core.List.{List, [], _∷_, _++_}
+use mathlib.Core.List.{List, [], _∷_}
 use lib.Dec.{eqb}
 use lib.ListN.{getD}
 use Rattle.units.specs.declared.Event.{Event}
@@ -12,7 +12,7 @@ use Rattle.units.specs.Time.{clock, time}
 use Rattle.rules.specs.declared.Status.{Status}
 use Rattle.rules.specs.declared.Status.the-variants.{NotStarted, Open, Closed}
 use Rattle.rules.specs.declared.Bank.{Bank}
-use Rattle.rules.specs.Banks.{row-of}
+use Rattle.words.specs.Words.{banks-numbers}
 
 -- 0 for an event that has not occurred; any other number, and its clock
 unfoldable pub event-in : ℕ → ℕ → Event
@@ -34,57 +34,13 @@ bank-in l i =
 abbrev pub banks-in : List ℕ → List Bank
 banks-in l = bank-in l 0 ∷ bank-in l 1 ∷ bank-in l 2 ∷ bank-in l 3 ∷ []
 
--- ── The numbers ──
-
-abbrev pub event-kind : Event → ℕ
-event-kind Never = 0
-event-kind (On n) = 1
-
-abbrev pub event-number : Event → ℕ
-event-number Never = 0
-event-number (On n) = n .0
-
-abbrev pub status-kind : Status → ℕ
-status-kind NotStarted = 0
-status-kind (Open row n) = 1
-status-kind (Closed t) = 2
-
--- the clock of the ACTIVE of an open bank
-abbrev pub status-clock : Status → ℕ
-status-clock NotStarted = 0
-status-clock (Open row n) = n .0
-status-clock (Closed t) = 0
-
--- the closing time of a closed bank
-abbrev pub status-time : Status → ℕ
-status-time NotStarted = 0
-status-time (Open row n) = 0
-status-time (Closed t) = t .0
-
--- a bank's eight numbers
-abbrev pub bank-numbers : Bank → List ℕ
-bank-numbers b =
-    status-kind (b .status)
-    ∷ row-of (b .status)
-    ∷ status-clock (b .status)
-    ∷ status-time (b .status)
-    ∷ event-kind (b .active)
-    ∷ event-number (b .active)
-    ∷ event-kind (b .stored)
-    ∷ event-number (b .stored)
-    ∷ []
-
-abbrev pub numbers-of : List Bank → List ℕ
-numbers-of [] = []
-numbers-of (b ∷ bs) = bank-numbers b ++ numbers-of bs
-
 -- ── An array that holds banks ──
 
--- these banks are read from it, and each of its numbers is the one that they give
+-- these banks are read from it, and its numbers are theirs
 pub record Held (l : List ℕ) (bs : List Bank) : Type 0 where
   pub banks : banks-in l ≡ bs
-  pub numbers : l ≡ numbers-of bs
+  pub numbers : l ≡ banks-numbers bs
 
 -- it holds the banks that are read from it
 abbrev pub Packed : List ℕ → Type 0
-Packed l = l ≡ numbers-of (banks-in l)
+Packed l = l ≡ banks-numbers (banks-in l)
