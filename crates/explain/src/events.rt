@@ -2,6 +2,7 @@
 // find).
 use crate::figures::lasts;
 use bursts::Bus;
+use layout::Command;
 use layout::Record;
 use rules::Bank;
 use rules::StartUp;
@@ -107,17 +108,20 @@ fn of_status(k: u8, i: u8, status: Status, stored: Event, period: Ps) -> Since {
 // for; BURST TERMINATE none.
 fn asks(k: u8, r: Record, i: u8) -> bool {
     let own = i == r.ba;
-    let code = layout::code_of(layout::command_of(r.code));
+    let command = layout::command_of(r.code);
     if k == 5 {
         return !own;
     }
-    if (code < 2) | (k == LONGEST_OPEN) {
+    if k == LONGEST_OPEN {
         return true;
     }
-    if code == 2 {
-        return layout::covers(r.addr, r.ba, i);
+    match command {
+        Command::LoadMode => true,
+        Command::Refresh => true,
+        Command::Precharge => layout::covers(r.addr, r.ba, i),
+        Command::Terminate => false,
+        _ => own,
     }
-    own & (code != 6)
 }
 
 // Of bank i, where it is asked: tRC and tRRD count from its last ACTIVE, closed since or not.

@@ -8,6 +8,7 @@ use crate::figures::put_ns;
 use crate::times;
 use crate::times::Held;
 use crate::walking::Halt;
+use layout::Command;
 use layout::Header;
 use layout::Record;
 use lines::put_text;
@@ -64,46 +65,44 @@ pub fn put_fault(number: u8, h: Header, bytes: usize, buf: &mut [u8], at: usize)
 }
 
 // The command's name; of a LOAD MODE its word.
-fn put_name(code: u8, r: Record, buf: &mut [u8], at: usize) -> usize {
+fn put_name(k: Command, r: Record, buf: &mut [u8], at: usize) -> usize {
     let every = layout::a10(r.addr);
+    let load = layout::is(k, Command::LoadMode);
+    let precharge = layout::is(k, Command::Precharge);
     let names =
         b"LOAD MODE\nAUTO REFRESH\nPRECHARGE\nACTIVE\nWRITE\nREAD\nBURST TERMINATE\nNOP\nCOMMAND INHIBIT\n";
-    let named = put_line(names, code, buf, at);
-    let all = put_mark((code == 2) & every, b" ALL", buf, named);
-    let worded = figures::put_word(code == 0, r.addr as u64, buf, all);
-    put_if(
-        (code == 0) & (r.ba != 0),
-        b" with BA",
-        r.ba as u64,
-        buf,
-        worded,
-    )
+    let named = put_line(names, layout::code_of(k), buf, at);
+    let all = put_mark(precharge & every, b" ALL", buf, named);
+    let worded = figures::put_word(load, r.addr as u64, buf, all);
+    put_if(load & (r.ba != 0), b" with BA", r.ba as u64, buf, worded)
 }
 
 // Its bank, row and column, as it has them: a READ or WRITE is for the row that is open.
-fn put_cells(code: u8, r: Record, status: Status, buf: &mut [u8], at: usize) -> usize {
+fn put_cells(k: Command, r: Record, status: Status, buf: &mut [u8], at: usize) -> usize {
     let every = layout::a10(r.addr);
-    let access = (code == 4) | (code == 5);
+    let access = layout::is_access(k);
+    let active = layout::is(k, Command::Active);
+    let precharge = layout::is(k, Command::Precharge);
     let open = access & banks::is_open(status);
     let row = banks::row_of(status) as u64;
     let column = r.column as u64;
-    let one = access | (code == 3) | ((code == 2) & !every);
+    let one = access | active | (precharge & !every);
     let banked = put_if(one, b" bank", r.ba as u64, buf, at);
-    let activated = put_if(code == 3, b" row", r.addr as u64, buf, banked);
+    let activated = put_if(active, b" row", r.addr as u64, buf, banked);
     let rowed = put_if(open, b" row", row, buf, activated);
     let columned = put_if(access, b" column", column, buf, rowed);
     put_mark(access & every, b" with auto precharge", buf, columned)
 }
 
 // The line of `put_rule` that says a number: 10 to 13, 17 to 22, the steps of 14, what 15 asks of the command, the intervals of 16, and 23.
-fn rule_line(number: u8, interval: u8, step: u8, code: u8) -> u8 {
+fn rule_line(number: u8, interval: u8, step: u8, k: Command) -> u8 {
     match number {
         14 => 10 + step % 4,
         15 => {
-            if code == 3 {
+            if layout::is(k, Command::Active) {
                 return 14;
             }
-            if code < 3 { 16 } else { 15 }
+            if layout::is_access(k) { 15 } else { 16 }
         }
         16 => 16 + interval % 9,
         10..=13 => number - 10,
@@ -204,9 +203,9 @@ fn put_first(place: u64, number: u8, interval: u8, buf: &mut [u8], at: usize) ->
 
 // `Command: PRECHARGE bank 1, on clock 13364, at 100230.000 ns.`
 fn put_command(r: Record, status: Status, now: Ps, period: Ps, buf: &mut [u8], at: usize) -> usize {
-    let code = layout::code_of(layout::command_of(r.code));
-    let named = put_name(code, r, buf, at);
-    let celled = put_cells(code, r, status, buf, named);
+    let k = layout::command_of(r.code);
+    let named = put_name(k, r, buf, at);
+    let celled = put_cells(k, r, status, buf, named);
     figures::put_moment(now, period, buf, celled)
 }
 
@@ -223,7 +222,8 @@ pub fn put_refusal(h: Halt, t: SpeedTable, buf: &mut [u8], at: usize) -> usize {
     let own = all[i];
     let status = own.status;
     let now = figures::lasts(times::clock_of(last, r.skipped), period);
-    let line = rule_line(h.number, h.interval, times::step(startup, r), r.code);
+    let command = layout::command_of(r.code);
+    let line = rule_line(h.number, h.interval, times::step(startup, r), command);
     let first = put_first(h.place, h.number, h.interval, buf, at);
     let named = put_command(r, status, now, period, buf, first);
     let ruled = put_rule(line, buf, named);

@@ -3,6 +3,7 @@ use crate::events;
 use crate::events::Since;
 use crate::figures::lasts;
 use crate::walking::Halt;
+use layout::Command;
 use layout::Record;
 use rules::StartUp;
 use rules::steps;
@@ -74,7 +75,7 @@ fn closing(r: Record, t: SpeedTable, u: StartUp, active: Ps, now: Ps, period: Ps
     let register = u.register;
     let word = steps::word_in(register);
     let earliest = plus(active, t.trasmin);
-    if layout::code_of(layout::command_of(r.code)) == 4 {
+    if layout::is(layout::command_of(r.code), Command::Write) {
         let length = lasts(Clock(mode::write_length(word) as u64), period);
         return earliest.later(plus(plus(now, length), t.addition));
     }
@@ -83,12 +84,12 @@ fn closing(r: Record, t: SpeedTable, u: StartUp, active: Ps, now: Ps, period: Ps
 }
 
 // The event that the number counts from: an interval of 16, the last refresh, the longest open row, or the state of the own bank.
-fn counted_by(number: u8, interval: u8, code: u8) -> u8 {
+fn counted_by(number: u8, interval: u8, command: Command) -> u8 {
     match number {
         12 => 6,
         13 => events::LONGEST_OPEN,
         15 => {
-            if code < 2 {
+            if layout::looks_at_all(command) {
                 events::LONGEST_OPEN
             } else {
                 events::OWN_STATUS
@@ -118,7 +119,8 @@ pub fn step(u: StartUp, r: Record) -> u8 {
         }
         return 1;
     }
-    if (r.code == 2) & layout::a10(r.addr) {
+    let precharge = layout::is(layout::command_of(r.code), Command::Precharge);
+    if precharge & layout::a10(r.addr) {
         return 3;
     }
     0
@@ -137,7 +139,8 @@ pub fn times(h: Halt, t: SpeedTable) -> Held {
     let n = clock_of(last, r.skipped);
     let now = lasts(n, period);
     let none = events::nothing();
-    let since = events::counted(counted_by(number, h.interval, r.code), s, r);
+    let command = layout::command_of(r.code);
+    let since = events::counted(counted_by(number, h.interval, command), s, r);
     let burst = events::running(bus, n, period);
     match number {
         12 => hold(2, t.interval, since, now),
