@@ -7,7 +7,7 @@
 A case is a byte with its number, a byte with its count of records, the thirteen numbers of its table in four bytes each, and its
 trace (header and records, document 01's layout). Its line is: its number, the verdict's number, record and interval, and each
 reported beat as R or W, clock, column and lanes. Every answer here is written by hand from document 01's sentences; no judge is
-run. The rows are those of crates/rules/specs/Cases.antt and FurtherCases.antt, but for the two on a clock near 2^40, which no
+run. The rows are those of crates/facts/specs/Cases.antt and FurtherCases.antt, but for the two on a clock near 2^40, which no
 whole trace of version 1 reaches, and after them the printed case and the verdicts on the header and the table. Two rows there
 that ask the columns and the lanes of one trace are one case here.
 """

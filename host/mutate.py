@@ -10,7 +10,7 @@
     python3 host/mutate.py --facts ..        the same of the edits of definitions, with no code there: host/facts.py says how
     python3 host/mutate.py --facts --each    one edit of each definition file, the first in the list; fails where one is not held
 
-An edit is made in a copy of the repository under target/mutate, with what is proved already. A library is then checked by `rt dev`, a
+An edit is made in a copy of the repository under target/mutate (or MUTATE_HOME), with what is proved already. A library is then checked by `rt dev`, a
 program by `rt check`, which also runs it; `upto NAME` in an edit has `rt check NAME` prove the edited crate and all up to NAME. An edit is
 
     killed    a proof, a table of cases or a run fails; the first error is shown
@@ -37,7 +37,7 @@ import facts
 
 HERE = os.path.dirname(os.path.abspath(__file__))
 ROOT = os.path.dirname(HERE)
-HOME = os.path.join(ROOT, "target", "mutate")
+HOME = facts.HOME
 RESULTS = os.path.join(HOME, "results.json")
 SECONDS = 1800
 MISFIT = re.compile(r"has no `Need-|error\[|does not parse|is not in scope|cannot be named|no such name|unbound")

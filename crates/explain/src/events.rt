@@ -1,6 +1,5 @@
 // The event that a minimum or a maximum counts from, as the state before the refused record holds it (01, Commands and what each must
 // find).
-use crate::figures::lasts;
 use bursts::Bus;
 use layout::Command;
 use layout::Record;
@@ -12,6 +11,7 @@ use rules::steps;
 use units::Clock;
 use units::Event;
 use units::Ps;
+use units::time::lasts;
 
 // An event: its kind, a line of `saying::KINDS`, 0 where there is none; the bank that it concerns; its time.
 pub struct Since {

@@ -2,28 +2,10 @@
 ghost use Prim.Native.Nat.{_≤_};
 ghost use mathlib.Core.Path.{_≡_};
 ghost use lib.ListN.{length};
-ghost use Rattle.explain.specs.Figures.{lasts};
 use units::Clock;
 use units::Event;
 use units::Ps;
-
-// No clock of a whole trace is above the first, and no period above the second.
-const CLOCK_MAX: u64 = 2_199_023_255_552;
-
-const PERIOD_MAX: u64 = 65_535;
-
-// "A count of n clocks lasts n times the period."
-pub fn lasts(n: Clock, period: Ps) -> Ps
-    ensures { λ r. ⌜ r ≡ lasts n period ⌝ }
-{
-    if CLOCK_MAX < n.0 {
-        return Ps(0);
-    }
-    if PERIOD_MAX < period.0 {
-        return Ps(0);
-    }
-    Ps(n.0 * period.0)
-}
+use units::time::lasts;
 
 // A number with a space before it.
 pub fn put_number(n: u64, buf: &mut [u8], at: usize) -> usize {

@@ -16,6 +16,7 @@ use rules::Status;
 use rules::banks;
 use speed::SpeedTable;
 use units::Ps;
+use units::time::lasts;
 
 // No record was refused.
 pub fn put_clean(count: u64, buf: &mut [u8], at: usize) -> usize {
@@ -221,7 +222,7 @@ pub fn put_refusal(h: Halt, t: SpeedTable, buf: &mut [u8], at: usize) -> usize {
     let i = (r.ba % 4) as usize;
     let own = all[i];
     let status = own.status;
-    let now = figures::lasts(times::clock_of(last, r.skipped), period);
+    let now = lasts(times::clock_of(last, r.skipped), period);
     let command = layout::command_of(r.code);
     let line = rule_line(h.number, h.interval, times::step(startup, r), command);
     let first = put_first(h.place, h.number, h.interval, buf, at);

@@ -1,7 +1,6 @@
 // The times that a refused record involves: what was asked, since which event, and until when.
 use crate::events;
 use crate::events::Since;
-use crate::figures::lasts;
 use crate::walking::Halt;
 use layout::Command;
 use layout::Record;
@@ -11,6 +10,7 @@ use speed::SpeedTable;
 use units::Clock;
 use units::Event;
 use units::Ps;
+use units::time::lasts;
 
 // What was asked: 1 at least so much, 2 at most, 0 neither; the event; and the time that is held against it.
 pub struct Held {

@@ -13,7 +13,7 @@ use Rattle.layout.specs.Commands.{column-on}
 use Rattle.layout.specs.Bytes.{has-pins, lane-masks, header-from, record-from, records-of}
 use Rattle.bursts.specs.declared.Beat.the-variants.{Stores}
 use Rattle.page.specs.Store.{put-lanes, stored}
-use Rattle.rules.specs.Cases.{with-133}
+use Rattle.facts.specs.Cases.{with-133}
 use Rattle.rules.specs.Numbers.{number-of, first-broken}
 use Rattle.rules.specs.Run.{Line, page-after}
 use Rattle.hawsehole.specs.Trace.{lent-rules, records, page-of}

@@ -16,7 +16,7 @@ use Rattle.bursts.specs.Burst.{has-beat, write-beat, read-beat, finished}
 use Rattle.bursts.specs.Bus.{masks-on, masks-after, reads-from, bus-after, beat-on, bursts-finished, driven, bus-clear}
 use Rattle.page.specs.Store.{put-lanes, stored}
 use Rattle.rules.specs.declared.Verdict.the-variants.{Taken}
-use Rattle.rules.specs.Cases.{with-133}
+use Rattle.facts.specs.Cases.{with-133}
 use Rattle.rules.specs.StartUp.{allowed}
 use Rattle.rules.specs.Banks.{banks-found}
 use Rattle.rules.specs.Minima.{of-closing, of-any, of-active, of-access, of-precharged, of-precharge, of-idle, events, minima}

@@ -15,7 +15,6 @@ use rules::Ran;
 use rules::Setup;
 use rules::Verdict;
 use speed::SpeedTable;
-use units::Clock;
 use units::Module;
 use units::Ps;
 
@@ -114,21 +113,7 @@ fn setup_of(
 ) -> Setup
     ensures { λ r. ⌜ r ≡ with-table (table t1 t2 t3 t4 t5 t6 t7 t8 t9 t10 t11 t12 t13) ⌝ }
 {
-    let table = SpeedTable {
-        tck2: Ps(t1),
-        tck3: Ps(t2),
-        trasmin: Ps(t3),
-        trasmax: Ps(t4),
-        trc: Ps(t5),
-        trcd: Ps(t6),
-        trp: Ps(t7),
-        trrd: Ps(t8),
-        trfc: Ps(t9),
-        twr: Ps(t10),
-        addition: Ps(t11),
-        interval: Ps(t12),
-        tmrd: Clock(t13),
-    };
+    let table = SpeedTable::of_numbers(t1, t2, t3, t4, t5, t6, t7, t8, t9, t10, t11, t12, t13);
     Setup { table }
 }
 

@@ -6,7 +6,7 @@ use lib.ListN.{replicate}
 use Rattle.speed.specs.Table.{table-fits}
 use Rattle.units.specs.Module.{module-of}
 use Rattle.layout.specs.Bytes.{header-from, read-header}
-use Rattle.rules.specs.Cases.{with-133}
+use Rattle.facts.specs.Cases.{with-133}
 use Rattle.rules.specs.Report.{ran, beat-word, put-line, lines-into}
 use Rattle.hawsehole.specs.Trace.{Judged, judge, whole-rules, lent-rules}
 use Rattle.hawsehole.specs.Numbers.{answer-word, whole-call, judge-beats}

@@ -1,4 +1,4 @@
--- By looking back: the whole traces of the tables of `rules`, P1 to P12 among them, and the printed case from its bytes.
+-- By looking back: the whole traces of the tables in `facts`, P1 to P12 among them, and the printed case from its bytes.
 use Prim.Native.Nat.{ℕ}
 use mathlib.Core.Path.{_≡_, refl}
 use mathlib.Core.List.{List, [], _∷_}
@@ -19,9 +19,9 @@ use Rattle.rules.specs.Banks.{banks-found}
 use Rattle.rules.specs.Minima.{of-closing, of-any, of-active, of-access, of-precharged, of-precharge, of-idle, events, minima}
 use Rattle.rules.specs.Rules.{every-rules, place-rules, minimum-rules, mode-rules, bus-rules, command-rules, rules}
 use Rattle.rules.specs.Run.{Run, page-after}
-use Rattle.rules.specs.Cases.{cases-by, with-133, bench}
-use Rattle.rules.specs.FurtherCases.{further}
-use Rattle.rules.specs.OrderCases.{all-orders}
+use Rattle.facts.specs.Cases.{cases-by, with-133, bench}
+use Rattle.facts.specs.FurtherCases.{further}
+use Rattle.facts.specs.OrderCases.{all-orders}
 use Rattle.hawsehole.specs.Trace.{refused, whole-rules, lent-rules}
 use Rattle.hawsehole.specs.Printed.{bytes, page-with, clean}
 use Rattle.lookback.specs.Past.{masks-at}

@@ -14,12 +14,3 @@ pub mod OneRecord
 pub mod Report
 pub mod Harder
 pub mod Demand3
-pub mod Cases
-pub mod StateCases
-pub mod OrderCases
-pub mod MinimaCases
-pub mod FurtherCases
-pub mod PartsCases
-pub mod NextCases
-pub mod ReportCases
-pub mod ModuleCases

@@ -1,6 +1,6 @@
 // The speed table of document 01: thirteen numbers, in its order.
 ghost use mathlib.Core.Path.{_≡_};
-ghost use Rattle.speed.specs.Table.{grade-13E, grade-133, of-grade, table-fits};
+ghost use Rattle.speed.specs.Table.{table, grade-13E, grade-133, of-grade, table-fits};
 use units::Clock;
 use units::Ps;
 
@@ -25,6 +25,41 @@ impl SpeedTable {
     pub const TIME_MAX: u64 = 200_000_000;
 
     pub const TMRD_MAX: u64 = 15;
+
+    // Thirteen numbers in document 01's order: times in picoseconds, and tMRD in clocks.
+    pub fn of_numbers(
+        tck2: u64,
+        tck3: u64,
+        trasmin: u64,
+        trasmax: u64,
+        trc: u64,
+        trcd: u64,
+        trp: u64,
+        trrd: u64,
+        trfc: u64,
+        twr: u64,
+        addition: u64,
+        interval: u64,
+        tmrd: u64,
+    ) -> SpeedTable
+        ensures { λ r. ⌜ r ≡ table tck2 tck3 trasmin trasmax trc trcd trp trrd trfc twr addition interval tmrd ⌝ }
+    {
+        SpeedTable {
+            tck2: Ps(tck2),
+            tck3: Ps(tck3),
+            trasmin: Ps(trasmin),
+            trasmax: Ps(trasmax),
+            trc: Ps(trc),
+            trcd: Ps(trcd),
+            trp: Ps(trp),
+            trrd: Ps(trrd),
+            trfc: Ps(trfc),
+            twr: Ps(twr),
+            addition: Ps(addition),
+            interval: Ps(interval),
+            tmrd: Clock(tmrd),
+        }
+    }
 
     // The column -13E of 003's table.
     pub fn grade_13e() -> SpeedTable

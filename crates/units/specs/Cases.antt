@@ -9,7 +9,7 @@ use Rattle.units.specs.declared.Module.the-variants.{Bench, Handheld}
 use Rattle.units.specs.declared.Clock.{Clock}
 use Rattle.units.specs.declared.Event.the-variants.{Never, On}
 use Rattle.units.specs.Module.{banks, rows, columns, bench-columns, lanes, has-full-page, page-bytes, module-of}
-use Rattle.units.specs.Time.{clock, time, at, clocks-after, plus, later, by, occurred, clocks-of}
+use Rattle.units.specs.Time.{clock, time, at, clocks-after, plus, later, by, occurred, clocks-of, lasts}
 use Rattle.units.specs.Facts.{all-true, same-numbers}
 
 -- ── The modules ──
@@ -73,6 +73,11 @@ times =
     ∷ eqb (at (time 7_500) (clock 0) .0) 0
     ∷ eqb (at (time 7_500) (clock 1) .0) 7_500
     ∷ eqb (at (time 65_535) (clock 1_099_511_627_776) .0) 72_056_494_526_300_160
+    -- the same for every clock and period: up to 2^25 clocks past 2^40 and 65,535 ps, and 0 beyond
+    ∷ eqb (lasts (clock 13_334) (time 7_500) .0) 100_005_000
+    ∷ eqb (lasts (clock 1_099_545_182_208) (time 65_535) .0) 72_058_693_516_001_280
+    ∷ eqb (lasts (clock 1_099_545_182_209) (time 65_535) .0) 0
+    ∷ eqb (lasts (clock 13_334) (time 65_536) .0) 0
     -- "the previous clock plus its skipped count plus 1"
     ∷ eqb (clocks-after (clock 13_334) 3 .0) 13_337
     ∷ eqb (clocks-after (clock 13_334) 0 .0) 13_334
@@ -100,4 +105,5 @@ times =
     ∷ []
 
 pub times-right : T (all-true times)
+unfolding lasts
 times-right = tt

@@ -71,11 +71,11 @@ use Rattle.rules.specs.After.{
   next,
   auto-closed,
 }
 use Rattle.rules.specs.Run.{Line, run, page-after, all-taken, last-beat}
 use Rattle.rules.specs.OneRecord.{found-of, Took, took, left-by, take-record, Stepped, both}
-use Rattle.rules.specs.Cases.{up, with-133}
-use Rattle.rules.specs.StateCases.{not-begun, over, state, bank}
-use Rattle.rules.specs.MinimaCases.{ready}
+use Rattle.facts.specs.Cases.{up, with-133}
+use Rattle.facts.specs.StateCases.{not-begun, over, state, bank}
+use Rattle.facts.specs.MinimaCases.{ready}
 
 -- ── A state with a value of its own in each part: record 5 comes after clock 1,000, row 7 of bank 1 is watched ──
 

@@ -11,13 +11,13 @@ use Rattle.layout.specs.declared.Record.{Record}
 use Rattle.layout.specs.declared.Command.the-variants.{Inhibit, Write}
 use Rattle.bursts.specs.Bus.{quiet-bus}
 use Rattle.bursts.specs.Cases.{Row}
 use Rattle.rules.specs.declared.Refreshes.the-variants.{Two}
 use Rattle.rules.specs.declared.Register.the-variants.{Loaded}
 use Rattle.rules.specs.declared.Status.the-variants.{Closed}
 use Rattle.rules.specs.declared.Bank.{Bank}
 use Rattle.rules.specs.declared.State.{State}
 use Rattle.rules.specs.Numbers.{tRCD, tRAS, tRC, tRP, tRRD, tRFC, tWR, tMRD}
-use Rattle.rules.specs.Cases.{
+use Rattle.facts.specs.Cases.{
   rec,
   with-a10,
   all-banks,
@@ -38,9 +38,9 @@ use Rattle.rules.specs.Cases.{
   case-by,
   whole-run,
 }
-use Rattle.rules.specs.Cases as cases
-use Rattle.rules.specs.StateCases.{state, bank}
-use Rattle.rules.specs.OrderCases.{at-banks}
+use Rattle.facts.specs.Cases as cases
+use Rattle.facts.specs.StateCases.{state, bank}
+use Rattle.facts.specs.OrderCases.{at-banks}
 
 -- ── Tables with one minimum that is not 0 ──
 

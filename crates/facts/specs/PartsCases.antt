@@ -58,8 +58,8 @@ use Rattle.rules.specs.After.{
   banks-after,
   next,
 }
 use Rattle.rules.specs.Run.{run}
-use Rattle.rules.specs.Cases.{
+use Rattle.facts.specs.Cases.{
   rec,
   with-a10,
   all-banks,
@@ -77,7 +77,7 @@ use Rattle.rules.specs.Cases.{
   Outcome,
   runs-from,
 }
-use Rattle.rules.specs.StateCases.{not-begun, over, state, bank, in-place, bank-in}
+use Rattle.facts.specs.StateCases.{not-begun, over, state, bank, in-place, bank-in}
 
 -- ── States on clock 1,000, of period 7,500, which watch row 7 of bank 1 ──
 

@@ -30,9 +30,9 @@ use Rattle.rules.specs.After.{
   banks-after,
   next,
 }
 use Rattle.rules.specs.Run.{run, page-after}
 use Rattle.rules.specs.Report.{lines-into, fold}
-use Rattle.rules.specs.Cases.{write, up, up-active, Outcome, runs-from, with-133}
+use Rattle.facts.specs.Cases.{write, up, up-active, Outcome, runs-from, with-133}
 
 -- before the first record of a trace of this grade, which watches row 7 of bank 1
 abbrev watching : ℕ → State

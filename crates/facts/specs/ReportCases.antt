@@ -59,12 +59,12 @@ use Rattle.rules.specs.After.{
   banks-after,
   next,
 }
 use Rattle.rules.specs.Run.{Line, run, page-after, all-taken}
 use Rattle.rules.specs.Fits.{bank-fits, burst-fits, core-fits, fits}
 use Rattle.rules.specs.OneRecord.{state-rules}
 use Rattle.rules.specs.Report.{Left, beat-word, put-line, lines-into, fold, records-rules, records-lent, records-call, call-run, records-next}
-use Rattle.rules.specs.Cases.{active, with-133}
-use Rattle.rules.specs.StateCases.{over, state, of-grade, bank}
+use Rattle.facts.specs.Cases.{active, with-133}
+use Rattle.facts.specs.StateCases.{over, state, of-grade, bank}
 
 -- ── The two words of a record ──
 

@@ -7,8 +7,8 @@ use Rattle.speed.specs.Table.{table, grade-13E, grade-133}
 use Rattle.layout.specs.declared.Record.{Record}
 use Rattle.layout.specs.declared.Command.the-variants.{Inhibit, Nop, Active, Read, LoadMode}
 use Rattle.layout.specs.Commands.{code-of}
 use Rattle.rules.specs.Numbers.{tRCD, tRAS, tRC, tRP, tRRD, tRFC, tWR, tMRD}
-use Rattle.rules.specs.Cases.{
+use Rattle.facts.specs.Cases.{
   rec,
   with-a10,
   all-banks,

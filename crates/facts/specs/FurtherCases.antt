@@ -29,8 +29,8 @@ use Rattle.rules.specs.After.{
   banks-after,
   next,
 }
 use Rattle.rules.specs.Run.{run}
-use Rattle.rules.specs.Cases.{
+use Rattle.facts.specs.Cases.{
   rec,
   with-a10,
   all-banks,
@@ -58,8 +58,8 @@ use Rattle.rules.specs.Cases.{
   whole-run,
   own-table,
 }
-use Rattle.rules.specs.OrderCases.{all-orders}
-use Rattle.rules.specs.MinimaCases.{all-minima}
+use Rattle.facts.specs.OrderCases.{all-orders}
+use Rattle.facts.specs.MinimaCases.{all-minima}
 
 -- -133 with other tRAS max, tRC, tRP
 abbrev other : ℕ → ℕ → ℕ → SpeedTable

@@ -1,0 +1,9 @@
+pub mod Cases
+pub mod StateCases
+pub mod OrderCases
+pub mod MinimaCases
+pub mod FurtherCases
+pub mod PartsCases
+pub mod NextCases
+pub mod ReportCases
+pub mod ModuleCases
