@@ -1,4 +1,5 @@
 // What is tried before a record is looked at: the bytes, the table, the page and the state.
+#![tactic(auto)]
 ghost use Rattle.std.specs.Prelude.{◌≡◌};
 ghost use Rattle.rules.specs.Numbers.{first_broken};
 ghost use Rattle.rules.specs.OneRecord.{fit_rules, state_rules};

@@ -1,4 +1,5 @@
 // What is asked of a record, command by command. Asking reads, and changes nothing.
+#![tactic(auto)]
 pub mod commands;
 pub mod every;
 mod maxima;
@@ -7,7 +8,7 @@ mod since;
 mod verdicts;
 
 // Which minima are not met, in the order of number 16's intervals.
-#[derive(Drop)]
+#[derive(Clone, Copy)]
 pub struct Shorts {
     pub rcd: bool,
     pub ras: bool,

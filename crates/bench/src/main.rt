@@ -2,6 +2,7 @@
 // its number, the verdict's number, record and interval, and each reported beat as R or W, clock, column and lanes.
 // A case is a byte with its number, a byte with its count of records, the thirteen numbers of its table in four bytes each, and
 // its trace; host/bench_cases.py writes them.
+#![tactic(auto)]
 ghost use Rattle.std.specs.Prelude.{◌≤◌, ◌<◌};
 
 use rules::Setup;

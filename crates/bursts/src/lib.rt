@@ -1,6 +1,7 @@
 // Bursts on the data bus: what a READ or WRITE set going, what cut it short, and the beat on a clock. One burst is in
 // `cuts` and `beats`, the masks of the last clocks in `masking`, and what is before the first record in `quiet`. The code of the bus, with its
 // four READs, is in crate `bus`.
+#![tactic(auto)]
 pub mod beats;
 pub mod cuts;
 pub mod masking;
@@ -9,7 +10,7 @@ pub mod quiet;
 use units::{Clock, Event};
 
 // A READ's or WRITE's burst. It holds registration and cut, never a sum of them: a sum could pass 2^40.
-#[derive(Drop)]
+#[derive(Clone, Copy)]
 pub struct Burst {
     pub live: bool,
     pub auto: bool,
@@ -22,7 +23,7 @@ pub struct Burst {
 }
 
 // DQMB7 to DQMB0 on the last record's clock, on the clock before it, and on the one before that.
-#[derive(Drop)]
+#[derive(Clone, Copy)]
 pub struct Masks {
     pub first: u8,
     pub second: u8,
@@ -30,7 +31,7 @@ pub struct Masks {
 }
 
 // The bursts that can still have beats, the latest READ first, and the masks.
-#[derive(Drop)]
+#[derive(Clone, Copy)]
 pub struct Bus {
     pub write: Burst,
     pub reads: [Burst; 4],
@@ -38,7 +39,7 @@ pub struct Bus {
 }
 
 // The byte lanes of one column that a beat stores or drives, lane 7 the top bit.
-#[derive(Drop)]
+#[derive(Clone, Copy)]
 pub struct Cells {
     pub bank: u8,
     pub row: u16,
@@ -47,7 +48,7 @@ pub struct Cells {
 }
 
 // What runs on the data bus on one clock.
-#[derive(Drop)]
+#[derive(Clone, Copy)]
 pub enum Beat {
     Quiet,
     Stores(Cells),

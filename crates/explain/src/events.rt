@@ -7,7 +7,7 @@ use units::time::lasts;
 use units::{Clock, Event, Ps};
 
 // An event: its kind, a line of `saying::KINDS`, 0 where there is none; the bank that it concerns; its time.
-#[derive(Drop)]
+#[derive(Clone, Copy)]
 pub struct Since {
     pub kind: u8,
     pub bank: u8,
@@ -160,7 +160,7 @@ pub fn counted(k: u8, s: State, r: Record) -> Since {
 }
 
 // 19: the burst that is unfinished on clock n, and how long it lasts. It is the latest: none may follow it.
-#[derive(Drop)]
+#[derive(Clone, Copy)]
 pub struct Unfinished {
     pub since: Since,
     pub length: Ps,

@@ -9,7 +9,7 @@ use units::time::lasts;
 use units::{Clock, Event, Ps};
 
 // What was asked: 1 at least so much, 2 at most, 0 neither; the event; and the time that is held against it.
-#[derive(Drop)]
+#[derive(Clone, Copy)]
 pub struct Held {
     pub mark: u8,
     pub asked: Ps,

@@ -5,7 +5,7 @@ use rules::{Setup, State};
 use units::Module;
 
 // What a refused record found: number and interval, its own number, the state before it, and the record.
-#[derive(Drop)]
+#[derive(Clone, Copy)]
 pub struct Halt {
     pub number: u8,
     pub interval: u8,

@@ -1,4 +1,5 @@
 // The whole-trace judge.
+#![tactic(auto)]
 ghost use Rattle.std.specs.Prelude.{◌≡◌};
 ghost use Rattle.rules.specs.Numbers.{first_broken};
 ghost use Rattle.rules.specs.Report.{left};

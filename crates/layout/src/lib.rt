@@ -1,4 +1,6 @@
 // What the bytes of a trace say: its header, its records, and the command of a record.
+#![tactic(auto)]
+
 ghost use Rattle.std.specs.Prelude.{◌<◌, ◌+◌, ◌≡◌, cond, [], ◌∷◌, leb, length};
 ghost use Rattle.layout.specs.Bytes.{number_after, word_at, header_from, has_pins, lane_masks, record_from, read_header, read_record};
 ghost use Rattle.layout.specs.Commands.{command_of, code_of, is, executable, looks_at_all, access, a10_of, column_of, column_on, covers};
@@ -6,7 +8,7 @@ ghost use Rattle.layout.specs.Commands.{command_of, code_of, is, executable, loo
 use units::Module;
 
 // The trace's first 16 bytes.
-#[derive(Drop)]
+#[derive(Clone, Copy)]
 pub struct Header {
     pub version: u8,
     pub period: u32,
@@ -18,7 +20,7 @@ pub struct Header {
 }
 
 // One record of 16 bytes: the clocks skipped before it, the pins, and the data bus.
-#[derive(Drop)]
+#[derive(Clone, Copy)]
 pub struct Record {
     pub skipped: u32,
     pub cke: u8,
@@ -32,20 +34,20 @@ pub struct Record {
 }
 
 // What bytes read as a header, or as a record, are.
-#[derive(Drop)]
+#[derive(Clone, Copy)]
 pub enum HeaderBytes {
     Headed(Header),
     TooShort,
 }
 
-#[derive(Drop)]
+#[derive(Clone, Copy)]
 pub enum RecordBytes {
     Whole(Record),
     WrongLength,
 }
 
 // The commands of 003 table 8.
-#[derive(Drop)]
+#[derive(Clone, Copy)]
 pub enum Command {
     Inhibit,
     Nop,
@@ -75,6 +77,7 @@ pub fn word(a: u8, b: u8, c: u8, d: u8, e: u8, f: u8, g: u8, h: u8) -> u64
 
 // A header out of its two words: version 8 bits, period 24, count 16, grade 8, bank 2, row 13, zeros 57. The row's
 // upper 6 bits end the first word and its lower 7 begin the second.
+#[tactic(auto, unfolding(crate::specs::Bytes::header_from))]
 pub fn header_from(first: u64, second: u64) -> Header
     ensures { result ≡ header_from first second }
 {
@@ -90,6 +93,7 @@ pub fn header_from(first: u64, second: u64) -> Header
 }
 
 // The module has a pin for each bit of address, masks and data that is set. The bench has one for every bit.
+#[tactic(auto, unfolding(crate::specs::Bytes::has_pins))]
 fn has_pins(m: Module, addr: u16, masks: u8, dq: u64) -> bool
     requires { addr < 8192 }
     ensures { result ≡ has_pins m addr masks dq }
@@ -101,6 +105,7 @@ fn has_pins(m: Module, addr: u16, masks: u8, dq: u64) -> bool
 }
 
 // The masks, with those of absent lanes HIGH: a lane that the module does not have is masked on each clock.
+#[tactic(auto, unfolding(crate::specs::Bytes::lane_masks))]
 fn lane_masks(m: Module, masks: u8) -> u8
     ensures { result ≡ lane_masks m masks }
 {
@@ -120,6 +125,7 @@ fn zeros_with(zeros: u16, pins: bool) -> u16
 
 // A record out of its two words: skipped clocks 24 bits, CKE 1, CS# RAS# CAS# WE# 4, BA 2, A12 to A0 13, DQMB7 to
 // DQMB0 8, zeros 12; then DQ63 to DQ0. Pins that the module lacks are dealt with here and nowhere later.
+#[tactic(auto, unfolding(crate::specs::Bytes::record_from))]
 pub fn record_from(m: Module, first: u64, second: u64) -> Record
     ensures { result ≡ record_from m first second }
 {
@@ -155,6 +161,7 @@ pub fn first_word(bytes: &[u8]) -> u64
 }
 
 // The header at the start of a trace: number 1 is given where there are "under 16 bytes".
+#[tactic(auto, unfolding(crate::specs::Bytes::read_header))]
 pub fn read_header(bytes: &[u8]) -> HeaderBytes
     ensures { result ≡ read_header bytes.now }
 {
@@ -167,6 +174,7 @@ pub fn read_header(bytes: &[u8]) -> HeaderBytes
 }
 
 // One record: "a record not 16 bytes long gives 1".
+#[tactic(auto, unfolding(crate::specs::Bytes::read_record))]
 pub fn read_record(m: Module, bytes: &[u8]) -> RecordBytes
     ensures { result ≡ read_record m bytes.now }
 {
@@ -257,6 +265,7 @@ pub fn column_of(addr: u16) -> u16
 }
 
 // Of those, the bits that the module has.
+#[tactic(auto, unfolding(crate::specs::Commands::column_on))]
 fn column_on(m: Module, addr: u16) -> u16
     ensures { result ≡ column_on m addr }
 {

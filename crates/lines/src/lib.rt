@@ -1,5 +1,7 @@
 // The printed form of document 01, put into a lent buffer. Each function takes the place where its text goes and answers the
 // place after it; a byte whose place is past the end is dropped.
+#![tactic(auto)]
+
 ghost use Rattle.std.specs.Prelude.{◌≡◌, ◌*◌, ◌<◌, min};
 ghost use Rattle.lines.specs.Text.{glyph, digits, decimal, hex, field, fields, beat_line, letter_of, beat_text, beat_lines, record_in, ok_line, refused_line, last_line, report};
 ghost use Rattle.lines.specs.Place.{laid, put, lay};

@@ -1,4 +1,6 @@
 // The mode word of document 01, decoded, and the order of columns inside a burst.
+#![tactic(auto)]
+
 ghost use Rattle.std.specs.Prelude.{◌%◌, ◌≡◌};
 ghost use Rattle.mode.specs.Word.{full_page, length_of, interleaved, latency, single, legal, decoded, write_length, write_endless};
 ghost use Rattle.mode.specs.Order.{in_block, beat_column};
@@ -6,7 +8,7 @@ ghost use Rattle.mode.specs.Order.{in_block, beat_column};
 use units::{COLUMNS, Module};
 
 // What a mode word that is not reserved says.
-#[derive(Drop)]
+#[derive(Clone, Copy)]
 pub struct Mode {
     pub length: u16,
     pub fullpage: bool,
@@ -16,7 +18,7 @@ pub struct Mode {
 }
 
 // A mode word: a mode, or reserved (number 17).
-#[derive(Drop)]
+#[derive(Clone, Copy)]
 pub enum Decoded {
     Known(Mode),
     Reserved,
@@ -31,6 +33,7 @@ pub fn full_page(w: u16) -> bool
 
 // M2 to M0: "0, 1, 2, 3 mean 1, 2, 4, 8"; in full page, the row's columns. A reserved length is read like full page. By a shift:
 // a table is looked up for each burst on each clock.
+#[tactic(auto, unfolding(crate::specs::Word::length_of))]
 pub fn length_of(w: u16) -> u16
     ensures { result ≡ length_of w }
 {
@@ -105,6 +108,7 @@ pub fn write_endless(w: u16) -> bool
 }
 
 // Where column c stands in its block: a burst's length is a power of two, so the block is found by a mask.
+#[tactic(auto, unfolding(crate::specs::Word::length_of))]
 pub fn block_place(w: u16, c: u64) -> u16
     ensures { result ≡ c % length_of w }
 {
@@ -124,6 +128,7 @@ pub fn in_block(w: u16, s: u16, i: u64) -> u16
 }
 
 // The column of beat i of a burst from column c. "Full page wraps at 2,048 columns and goes on without end."
+#[tactic(auto, unfolding(crate::specs::Order::beat_column))]
 pub fn beat_column(w: u16, c: u16, i: u64) -> u16
     ensures { result ≡ beat_column w c i }
 {

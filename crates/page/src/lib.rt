@@ -1,4 +1,5 @@
 // Stores into the lent page of the watched bank and row.
+#![tactic(auto)]
 ghost use Rattle.std.specs.Prelude.{◌≡◌, cond, ◌%◌, eqb, set};
 ghost use Rattle.page.specs.Store.{put_cells, stored};
 

@@ -1,4 +1,5 @@
 // Document 01's rules: the state that they speak of, and the answers that they give. The rules themselves are in specs/.
+#![tactic(auto)]
 ghost use Rattle.std.specs.Prelude.{◌≡◌};
 ghost use Rattle.rules.specs.Numbers.{number_of, interval_of};
 ghost use Rattle.rules.specs.OneRecord.{period_fits, grade_known};
@@ -20,7 +21,7 @@ pub const CLOCK_MAX: u64 = 1_099_511_627_776;
 pub const NUMBER_MAX: u64 = 2_199_023_255_552;
 
 // The refreshes done: none, one, or two and more, with the clock of the last.
-#[derive(Drop)]
+#[derive(Clone, Copy)]
 pub enum Refreshes {
     None,
     One(Clock),
@@ -28,14 +29,14 @@ pub enum Refreshes {
 }
 
 // The mode register: its word and the clock of the last LOAD MODE.
-#[derive(Drop)]
+#[derive(Clone, Copy)]
 pub enum Register {
     Unloaded,
     Loaded { word: u16, clock: Clock },
 }
 
 // The steps of start-up: the last PRECHARGE ALL, the refreshes, the mode register.
-#[derive(Drop)]
+#[derive(Clone, Copy)]
 pub struct StartUp {
     pub allclosed: Event,
     pub refreshes: Refreshes,
@@ -43,7 +44,7 @@ pub struct StartUp {
 }
 
 // What a bank is: not started, open with row and ACTIVE clock, or closed with its closing time.
-#[derive(Drop)]
+#[derive(Clone, Copy)]
 pub enum Status {
     NotStarted,
     Open { row: u16, active: Clock },
@@ -51,7 +52,7 @@ pub enum Status {
 }
 
 // A bank, with its last ACTIVE (also after closing) and the last clock on which a byte was stored in it after that.
-#[derive(Drop)]
+#[derive(Clone, Copy)]
 pub struct Bank {
     pub status: Status,
     pub active: Event,
@@ -60,7 +61,7 @@ pub struct Bank {
 
 // The state but for its banks: what no number of the table reaches. The grade says which module it is, `number` is that of
 // the next record.
-#[derive(Drop)]
+#[derive(Clone, Copy)]
 pub struct Core {
     pub period: Ps,
     pub grade: u8,
@@ -73,34 +74,34 @@ pub struct Core {
 }
 
 // The state of the device, as the records taken so far left it.
-#[derive(Drop)]
+#[derive(Clone, Copy)]
 pub struct State {
     pub core: Core,
     pub banks: [Bank; 4],
 }
 
 // What comes with a call beside trace and page.
-#[derive(Drop)]
+#[derive(Clone, Copy)]
 pub struct Setup {
     pub table: SpeedTable,
 }
 
 // A record is taken, or refused with a number of document 01 and the interval where that is 16.
-#[derive(Drop)]
+#[derive(Clone, Copy)]
 pub enum Verdict {
     Taken,
     Refused { number: u8, interval: u8 },
 }
 
 // What judging many records gives: the verdict, and the record that it reports.
-#[derive(Drop)]
+#[derive(Clone, Copy)]
 pub struct Ran {
     pub verdict: Verdict,
     pub reported: u64,
 }
 
 // The answer to one record: number and interval, the record, and the beat on its clock.
-#[derive(Drop)]
+#[derive(Clone, Copy)]
 pub struct Answer {
     pub number: u8,
     pub interval: u8,

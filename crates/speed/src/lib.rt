@@ -1,10 +1,12 @@
 // The speed table of document 01: thirteen numbers, in its order.
+#![tactic(auto)]
+
 ghost use Rattle.std.specs.Prelude.{◌≡◌};
 ghost use Rattle.speed.specs.Table.{table, grade_13E, grade_133, of_grade, table_fits};
 
 use units::{Clock, Ps};
 
-#[derive(Drop)]
+#[derive(Clone, Copy)]
 pub struct SpeedTable {
     pub tck2: Ps,
     pub tck3: Ps,
@@ -116,6 +118,7 @@ impl SpeedTable {
     }
 
     // The table is inside the bounds: number 6 is given exactly when it is not.
+    #[tactic(auto, unfolding(crate::specs::Table::table_fits))]
     pub fn fits(self) -> bool
         ensures { result ≡ table_fits self }
     {

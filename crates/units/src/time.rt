@@ -19,6 +19,7 @@ const FURTHEST_CLOCK: u64 = 1_099_545_182_208;
 const LONGEST_PERIOD: u64 = 65_535;
 
 // The same for every clock and period, and 0 out of reach.
+#[tactic(auto, unfolding(crate::specs::Reach::lasts))]
 pub fn lasts(n: Clock, period: Ps) -> Ps
     ensures { result ≡ lasts n period }
 {

@@ -1,5 +1,6 @@
 // The state as 94 numbers, the words, for a caller that holds it in C: each number is of one kind, and a state is written in one
 // way. `reading` takes a state from them, `writing` puts one there.
+#![tactic(auto)]
 ghost use Rattle.std.specs.Prelude.{◌≡◌};
 ghost use Rattle.words.specs.Words.{state_in, words_of, same, holds, put_words};
 

@@ -1,0 +1,8 @@
+-- carried over
+use native.Mathlib.Nat.{add-mod-mod}
+use borrow.Author.Rules.{rules}
+use Rattle.mode.proofs.in_block.Goals as goal
+
+pub returns : goal.returns
+returns c =
+    rw (c.block_place-3.ensures, c.block_place-2.ensures, ← c.interleaved.ensures, c.if-interleaved.false) (add-mod-mod _ _ _)
