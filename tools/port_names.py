@@ -37,8 +37,8 @@ def is_library(path):
 
 
 def declared(path):
-    """The names that a file of definitions or lemmas declares, and the fields of its records."""
-    inside = False
+    """The names that a file of definitions or lemmas declares, those below a line `module _ .. where` too, and the fields of its records."""
+    inside = below = False
     for line in text_of(path).splitlines():
         if not line.strip():
             continue
@@ -46,7 +46,11 @@ def declared(path):
             field = re.match(r"^\s+(?:pub )?([^\s:(){}]+)\s*:", line)
             if inside and field:
                 yield field.group(1)
+            lemma = re.match(r"^  (?:unfoldable |abbrev |pub )*([^\s:(){}]+) :", line)
+            if below and lemma:
+                yield lemma.group(1)
             continue
+        below = line.startswith("module _")
         if line.startswith(("--", ")", "]", "}") + SKIPPED):
             continue
         inside = bool(re.match(r"^(?:abbrev |pub |unfoldable )*(?:record|data)\b", line))
@@ -94,7 +98,10 @@ def turned(line, names, comment):
 
 def main():
     names = table()
+    # port.py leaves the edits alone: there its own respellings are due too.
+    dashed = {name.replace("_", "-"): name for path in files(".antt") if is_library(path) for name in declared(path) if "-" not in name}
     for ending, comment in ((".antt", "-- "), (".rt", "// "), (".edit", "# ")):
+        names = {**dashed, **names} if ending == ".edit" else names
         for path in files(ending):
             old = text_of(path)
             new = "".join(turned(line, names, comment) for line in old.splitlines(keepends=True))

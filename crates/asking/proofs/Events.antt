@@ -33,9 +33,9 @@ use Rattle.asking.specs.Shorts.{
 use Rattle.asking.proofs.Lowest.{shorts_join, shorts_none, shorts_only, either_none, none_either, one_short, shorts_since, shorts_opened, shorts_stored, shorts_closed, shorts_each}
 
 module _ (t : SpeedTable) (period now : Ps) where
-  closing-shorts : (b : Bank) → shorts t period now (of_closing b) ≡ one_short t period tRP (λ m. short_closed b.status m now)
+  closing_shorts : (b : Bank) → shorts t period now (of_closing b) ≡ one_short t period tRP (λ m. short_closed b.status m now)
   unfolding of_closing
-  closing-shorts b = shorts_closed t period now tRP b.status
+  closing_shorts b = shorts_closed t period now tRP b.status
 
   -- any executable command
   pub any_shorts : (u : StartUp)
@@ -53,8 +53,8 @@ module _ (t : SpeedTable) (period now : Ps) where
   unfolding of_any either
   any_shorts u = simp (shorts_join, shorts_since, or-false)
 
-  other-shorts : (ba i : ℕ) (b : Bank) → shorts t period now (of_other period ba i b) ≡ one_short t period tRRD (λ m. short_other period ba i b m now)
-  other-shorts ba i b = go (eqb i ba) refl
+  other_shorts : (ba i : ℕ) (b : Bank) → shorts t period now (of_other period ba i b) ≡ one_short t period tRRD (λ m. short_other period ba i b m now)
+  other_shorts ba i b = go (eqb i ba) refl
     where
       go : (x : Bool) → eqb i ba ≡ x → shorts t period now (of_other period ba i b) ≡ one_short t period tRRD (λ m. short_other period ba i b m now)
       go true e = rw e (shorts_none t period now)
@@ -75,7 +75,7 @@ module _ (t : SpeedTable) (period now : Ps) where
       }
   unfolding of_active either short_others
   active_shorts ba bs h =
-      rw (shorts_join, shorts_join, closing-shorts, shorts_since, shorts_each t period now (of_other period ba) bs h, other-shorts ba 0, other-shorts ba 1, other-shorts ba 2, other-shorts ba 3)
+      rw (shorts_join, shorts_join, closing_shorts, shorts_since, shorts_each t period now (of_other period ba) bs h, other_shorts ba 0, other_shorts ba 1, other_shorts ba 2, other_shorts ba 3)
       (simp or-false)
 
   -- READ and WRITE
@@ -109,7 +109,7 @@ module _ (t : SpeedTable) (period now : Ps) where
         mrd = false;
       }
   unfolding of_precharged either
-  precharged_shorts b = simp (shorts_join, shorts_opened, shorts_stored, closing-shorts, or-false)
+  precharged_shorts b = simp (shorts_join, shorts_opened, shorts_stored, closing_shorts, or-false)
 
   pub covered_shorts : (r : Record) (i : ℕ) (b : Bank)
       → shorts t period now (of_covered period r i b) ≡ cond (covers r.addr r.ba i) (shorts t period now (of_precharged period b)) no_shorts
@@ -138,7 +138,7 @@ module _ (t : SpeedTable) (period now : Ps) where
       }
   unfolding of_idle either short_closings
   idle_shorts bs h =
-      rw (shorts_each t period now (λ i b. of_closing b) bs h, closing-shorts (bank_at bs 0), closing-shorts (bank_at bs 1), closing-shorts (bank_at bs 2), closing-shorts (bank_at bs 3))
+      rw (shorts_each t period now (λ i b. of_closing b) bs h, closing_shorts (bank_at bs 0), closing_shorts (bank_at bs 1), closing_shorts (bank_at bs 2), closing_shorts (bank_at bs 3))
 
   -- ── By command, after the first PRECHARGE ALL ──
 

@@ -170,15 +170,15 @@ module _ (t : SpeedTable) (c : Core) (bs : List Bank) (r : Record) (n : Clock) (
   -- ── After it ──
 
   -- 15 and 16 of ACTIVE
-  abbrev pub active-answer : Verdict
-  active-answer =
+  abbrev pub active_answer : Verdict
+  active_answer =
       cond (is_closed (bank_at bs r.ba).status)
       (lowest (either (shorts t c.period now (of_any c.period c.startup)) (shorts t c.period now (of_active c.period r.ba bs))))
       (Refused 15 0)
 
   -- 15 to 22 of WRITE, READ and BURST TERMINATE
-  abbrev pub burst-answer : Command → Verdict
-  burst-answer k =
+  abbrev pub burst_answer : Command → Verdict
+  burst_answer k =
       cond (access k ⇒ is_open (bank_at bs r.ba).status)
       (then
       (lowest
@@ -193,7 +193,7 @@ module _ (t : SpeedTable) (c : Core) (bs : List Bank) (r : Record) (n : Clock) (
 
     begun-active : first_broken (command_rules Active t (core_module c) c.period (found c bs n) r n now)
         ≡ cond (started c.startup)
-        active-answer
+        active_answer
         (Refused 14 0)
     unfolding allowed banks_found mode_rules bus_rules
     begun-active = rw (ladder Active t c bs r n now, minima-begun Active, events-active, then_taken, b, and-true, and-true)
@@ -201,7 +201,7 @@ module _ (t : SpeedTable) (c : Core) (bs : List Bank) (r : Record) (n : Clock) (
     begun-burst : (k : Command) → (access k || is k Terminate) ≡ true
         → first_broken (command_rules k t (core_module c) c.period (found c bs n) r n now)
         ≡ cond (started c.startup)
-        (burst-answer k)
+        (burst_answer k)
         (Refused 14 0)
     unfolding allowed banks_found mode_rules
     begun-burst Inhibit h = absurd (true≢false (sym h))
@@ -238,28 +238,28 @@ module _ (t : SpeedTable) (c : Core) (bs : List Bank) (r : Record) (n : Clock) (
 
   -- ── ACTIVE, before it or after ──
 
-  pub active-ladder : first_broken (command_rules Active t (core_module c) c.period (found c bs n) r n now)
+  pub active_ladder : first_broken (command_rules Active t (core_module c) c.period (found c bs n) r n now)
       ≡ cond (begun c.startup && started c.startup)
-      active-answer
+      active_answer
       (Refused 14 0)
-  active-ladder = go (begun c.startup) refl
+  active_ladder = go (begun c.startup) refl
     where
       go : (x : Bool) → begun c.startup ≡ x
           → first_broken (command_rules Active t (core_module c) c.period (found c bs n) r n now)
           ≡ cond (begun c.startup && started c.startup)
-          active-answer
+          active_answer
           (Refused 14 0)
       go true b = rw b (begun-active b)
       go false b = rw (unbegun Active b, b)
 
   -- ── WRITE, READ and BURST TERMINATE, before it or after ──
 
-  pub burst-ladder : (k : Command) → (access k || is k Terminate) ≡ true
+  pub burst_ladder : (k : Command) → (access k || is k Terminate) ≡ true
       → first_broken (command_rules k t (core_module c) c.period (found c bs n) r n now)
       ≡ cond (begun c.startup && started c.startup)
-      (burst-answer k)
+      (burst_answer k)
       (Refused 14 0)
-  burst-ladder k h = go (begun c.startup) refl
+  burst_ladder k h = go (begun c.startup) refl
     where
       no-precharge : (k : Command) → (access k || is k Terminate) ≡ true → precharge_all k r ≡ false
       no-precharge Inhibit h = absurd (true≢false (sym h))
@@ -275,7 +275,7 @@ module _ (t : SpeedTable) (c : Core) (bs : List Bank) (r : Record) (n : Clock) (
       go : (x : Bool) → begun c.startup ≡ x
           → first_broken (command_rules k t (core_module c) c.period (found c bs n) r n now)
           ≡ cond (begun c.startup && started c.startup)
-          (burst-answer k)
+          (burst_answer k)
           (Refused 14 0)
       go true b = rw b (begun-burst b k h)
       go false b = rw (unbegun k b, no-precharge k h, b)

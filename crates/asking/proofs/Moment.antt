@@ -25,13 +25,13 @@ none_too_long t period now bs = every (λ b. open_within period t.trasmax now b.
 
 module _ (t : SpeedTable) (period : Ps) (refreshes : Refreshes) (bs : List Bank) (r : Record) (n : Clock) (now : Ps) where
   -- "tried in the order listed": 13 is the one row after the four
-  pub rows-then-13 : every_rules t period refreshes bs r n now ≡ moment_rules t period refreshes r n now ++ (rule 13 0 (none_too_long t period now bs) ∷ [])
+  pub rows_then_13 : every_rules t period refreshes bs r n now ≡ moment_rules t period refreshes r n now ++ (rule 13 0 (none_too_long t period now bs) ∷ [])
   unfolding every_rules moment_rules
-  rows-then-13 = refl
+  rows_then_13 = refl
 
-  pub moment-then-13 : first_broken (every_rules t period refreshes bs r n now)
+  pub moment_then_13 : first_broken (every_rules t period refreshes bs r n now)
       ≡ then (first_broken (moment_rules t period refreshes r n now)) (cond (none_too_long t period now bs) Taken (Refused 13 0))
-  moment-then-13 =
-      ap first_broken rows-then-13
+  moment_then_13 =
+      ap first_broken rows_then_13
       ∙ (first_join (moment_rules t period refreshes r n now) (rule 13 0 (none_too_long t period now bs) ∷ [])
       ∙ ap (then (first_broken (moment_rules t period refreshes r n now))) (last_row (none_too_long t period now bs)))

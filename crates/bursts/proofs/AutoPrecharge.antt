@@ -9,14 +9,14 @@ use Rattle.bursts.specs.declared.Burst.{Burst}
 use Rattle.bursts.specs.Burst.{finished}
 
 module _ (length : ℕ) (n : Clock) (b : Burst) where
-  pub none-is-finished : (b.live && b.auto) ≡ false → true ≡ finished length n b
+  pub none_is_finished : (b.live && b.auto) ≡ false → true ≡ finished length n b
   unfolding finished
-  none-is-finished h = rw h
+  none_is_finished h = rw h
 
-  pub unfinished-ahead : (b.live && b.auto) ≡ true → n.0 < b.start.0 → false ≡ finished length n b
+  pub unfinished_ahead : (b.live && b.auto) ≡ true → n.0 < b.start.0 → false ≡ finished length n b
   unfolding finished
-  unfinished-ahead a h = rw (a, leb_ahead n.0 b.start.0 length h)
+  unfinished_ahead a h = rw (a, leb_ahead n.0 b.start.0 length h)
 
-  pub finished-since : (b.live && b.auto) ≡ true → b.start.0 ≤ n.0 → leb length (n.0 - b.start.0) ≡ finished length n b
+  pub finished_since : (b.live && b.auto) ≡ true → b.start.0 ≤ n.0 → leb length (n.0 - b.start.0) ≡ finished length n b
   unfolding finished
-  finished-since a h = rw (a, leb_since n.0 b.start.0 length h)
+  finished_since a h = rw (a, leb_since n.0 b.start.0 length h)

@@ -20,11 +20,11 @@ not_both_asked false t a b h = refl
 
 module _ (f : Bool) (start n : Clock) where
   -- no cut so far
-  pub first-cut : (f && ltb start.0 n.0) ≡ true → On n ≡ cond f (cut_on start n Never) Never
-  first-cut h = both_asked f (ltb start.0 n.0 && true) (On n) Never (rw (and-true (ltb start.0 n.0)) h)
+  pub first_cut : (f && ltb start.0 n.0) ≡ true → On n ≡ cond f (cut_on start n Never) Never
+  first_cut h = both_asked f (ltb start.0 n.0 && true) (On n) Never (rw (and-true (ltb start.0 n.0)) h)
 
-  pub no-first-cut : (f && ltb start.0 n.0) ≡ false → Never ≡ cond f (cut_on start n Never) Never
-  no-first-cut h = not_both_asked f (ltb start.0 n.0 && true) (On n) Never (rw (and-true (ltb start.0 n.0)) h)
+  pub no_first_cut : (f && ltb start.0 n.0) ≡ false → Never ≡ cond f (cut_on start n Never) Never
+  no_first_cut h = not_both_asked f (ltb start.0 n.0 && true) (On n) Never (rw (and-true (ltb start.0 n.0)) h)
 
   -- one on clock x
   module _ (x : Clock) where

@@ -8,8 +8,8 @@ abbrev pub first_of : Bool → Bool → Bool → ℕ
 first_of p q r = cond p 0 (cond q 1 (cond r 2 3))
 
 module _ (p q r : Bool) (i : ℕ) (e : i ≡ first_of p q r) where
-  pub is-first : i ≡ 0 → p ≡ true
-  is-first h = go p (sym e ∙ h)
+  pub is_first : i ≡ 0 → p ≡ true
+  is_first h = go p (sym e ∙ h)
     where
       go : (p : Bool) → first_of p q r ≡ 0 → p ≡ true
       go true x = refl
@@ -27,8 +27,8 @@ module _ (p q r : Bool) (i : ℕ) (e : i ≡ first_of p q r) where
       go true t = absurd (h (e ∙ ap (λ (y : Bool). first_of y q r) t))
       go false t = t
 
-  pub is-second : (i ≡ 0 → ⊥) → i ≡ 1 → (p ≡ false) × (q ≡ true)
-  is-second h g = (not_first h, go q refl)
+  pub is_second : (i ≡ 0 → ⊥) → i ≡ 1 → (p ≡ false) × (q ≡ true)
+  is_second h g = (not_first h, go q refl)
     where
       at : i ≡ cond q 1 (cond r 2 3)
       at = e ∙ ap (λ (y : Bool). first_of y q r) (not_first h)
@@ -41,8 +41,8 @@ module _ (p q r : Bool) (i : ℕ) (e : i ≡ first_of p q r) where
       go true t = t
       go false t = absurd (two r (sym (at ∙ ap (λ (y : Bool). cond y 1 (cond r 2 3)) t) ∙ g))
 
-  not-second : (i ≡ 0 → ⊥) → (i ≡ 1 → ⊥) → q ≡ false
-  not-second h g = go q refl
+  not_second : (i ≡ 0 → ⊥) → (i ≡ 1 → ⊥) → q ≡ false
+  not_second h g = go q refl
     where
       at : i ≡ cond q 1 (cond r 2 3)
       at = e ∙ ap (λ (y : Bool). first_of y q r) (not_first h)
@@ -51,21 +51,21 @@ module _ (p q r : Bool) (i : ℕ) (e : i ≡ first_of p q r) where
       go true t = absurd (g (at ∙ ap (λ (y : Bool). cond y 1 (cond r 2 3)) t))
       go false t = t
 
-  pub is-third : (i ≡ 0 → ⊥) → (i ≡ 1 → ⊥) → i ≡ 2 → (p ≡ false) × (q ≡ false) × (r ≡ true)
-  is-third h g k = (not_first h, not-second h g, go r refl)
+  pub is_third : (i ≡ 0 → ⊥) → (i ≡ 1 → ⊥) → i ≡ 2 → (p ≡ false) × (q ≡ false) × (r ≡ true)
+  is_third h g k = (not_first h, not_second h g, go r refl)
     where
       at : i ≡ cond r 2 3
-      at = e ∙ (λ j. first_of (not_first h j) (not-second h g j) r)
+      at = e ∙ (λ j. first_of (not_first h j) (not_second h g j) r)
 
       go : (x : Bool) → r ≡ x → r ≡ true
       go true t = t
       go false t = let z : ◌≡◌ {A = ℕ} 3 2 = sym (at ∙ ap (λ (y : Bool). cond y 2 3) t) ∙ k in absurd (omega (arith, z))
 
   pub is_none : (i ≡ 0 → ⊥) → (i ≡ 1 → ⊥) → (i ≡ 2 → ⊥) → (p ≡ false) × (q ≡ false) × (r ≡ false)
-  is_none h g k = (not_first h, not-second h g, go r refl)
+  is_none h g k = (not_first h, not_second h g, go r refl)
     where
       at : i ≡ cond r 2 3
-      at = e ∙ (λ j. first_of (not_first h j) (not-second h g j) r)
+      at = e ∙ (λ j. first_of (not_first h j) (not_second h g j) r)
 
       go : (x : Bool) → r ≡ x → r ≡ false
       go true t = absurd (k (at ∙ ap (λ (y : Bool). cond y 2 3) t))

@@ -51,7 +51,7 @@ outruns d b n = reads_on d n && ltb b.start.0 d.start.0
 
 module _ (bs : List Burst) (h : length bs ≡ 4) where
   -- the beat of the READs is that of the one registered last of those that run
-  pub reads-beat-four : (masks : ℕ) (n : Clock)
+  pub reads_beat_four : (masks : ℕ) (n : Clock)
       → reads_beat bs masks n
       ≡ cond
       (reads_on (burst bs 0) n
@@ -61,39 +61,39 @@ module _ (bs : List Burst) (h : length bs ≡ 4) where
       (read_beat (burst bs 1) masks n)
       (cond (reads_on (burst bs 2) n && not (outruns (burst bs 3) (burst bs 2) n)) (read_beat (burst bs 2) masks n)
       (cond (reads_on (burst bs 3) n) (read_beat (burst bs 3) masks n) Quiet)))
-  reads-beat-four masks n = ap (λ (l : List Burst). reads_beat l masks n) (four bs h) ∙ simp (or-false, and-true)
+  reads_beat_four masks n = ap (λ (l : List Burst). reads_beat l masks n) (four bs h) ∙ simp (or-false, and-true)
 
-  pub reads-run-four : (n : Clock)
+  pub reads_run_four : (n : Clock)
       → reads_run bs n
       ≡ (reads_on (burst bs 0) n || (reads_on (burst bs 1) n || (reads_on (burst bs 2) n || reads_on (burst bs 3) n)))
-  reads-run-four n = ap (λ (l : List Burst). reads_run l n) (four bs h) ∙ rw or-false
+  reads_run_four n = ap (λ (l : List Burst). reads_run l n) (four bs h) ∙ rw or-false
 
-  pub cut-each-four : (k : Command) (addr ba : ℕ) (n : Clock)
+  pub cut_each_four : (k : Command) (addr ba : ℕ) (n : Clock)
       → cut_each k addr ba n bs
       ≡ (cut_by k addr ba n (burst bs 0)
       ∷ cut_by k addr ba n (burst bs 1)
       ∷ cut_by k addr ba n (burst bs 2)
       ∷ cut_by k addr ba n (burst bs 3)
       ∷ [])
-  cut-each-four k addr ba n = ap (cut_each k addr ba n) (four bs h)
+  cut_each_four k addr ba n = ap (cut_each k addr ba n) (four bs h)
 
-  pub reads-finished-four : (n : Clock)
+  pub reads_finished_four : (n : Clock)
       → reads_finished n bs
       ≡ (finished (length_of (burst bs 0).word) n (burst bs 0)
       && (finished (length_of (burst bs 1).word) n (burst bs 1)
       && (finished (length_of (burst bs 2).word) n (burst bs 2)
       && finished (length_of (burst bs 3).word) n (burst bs 3))))
-  reads-finished-four n = ap (reads_finished n) (four bs h) ∙ rw and-true
+  reads_finished_four n = ap (reads_finished n) (four bs h) ∙ rw and-true
 
   -- a WRITE leaves those READs that are not before it
-  pub written-four : (n : Clock)
+  pub written_four : (n : Clock)
       → written_over n bs
       ≡ (cond (ltb (burst bs 0).start.0 n.0) no_burst (burst bs 0)
       ∷ cond (ltb (burst bs 1).start.0 n.0) no_burst (burst bs 1)
       ∷ cond (ltb (burst bs 2).start.0 n.0) no_burst (burst bs 2)
       ∷ cond (ltb (burst bs 3).start.0 n.0) no_burst (burst bs 3)
       ∷ [])
-  written-four n = ap (written_over n) (four bs h)
+  written_four n = ap (written_over n) (four bs h)
 
 module _ (k : Command) (r : Record) (n : Clock) (word row : ℕ) (bs : List Burst) where
   -- a WRITE leaves the READs that are not before it
@@ -109,6 +109,6 @@ module _ (k : Command) (r : Record) (n : Clock) (word row : ℕ) (bs : List Burs
   after_read w e x y z q = rw (w, e, q, e)
 
   -- any other command cuts those that it ends
-  pub after-others : is k Write ≡ false → is k Read ≡ false → cut_each k r.addr r.ba n bs ≡ reads_after k r n word row bs
+  pub after_others : is k Write ≡ false → is k Read ≡ false → cut_each k r.addr r.ba n bs ≡ reads_after k r n word row bs
   unfolding reads_from
-  after-others w e = rw (w, e)
+  after_others w e = rw (w, e)

@@ -21,18 +21,18 @@ ltb_since n s k h = leb_alike (suc n) (s + k) (suc (n - s)) k (λ p. omega arith
 -- ── In time ──
 
 module _ (b : Burst) (n : Clock) where
-  pub no-burst-in-time : b.live ≡ false → false ≡ in_time b n
-  no-burst-in-time h = rw h
+  pub no_burst_in_time : b.live ≡ false → false ≡ in_time b n
+  no_burst_in_time h = rw h
 
-  pub ahead-not-in-time : n.0 < b.start.0 → false ≡ in_time b n
-  ahead-not-in-time h = simp (lt-leb b.start.0 n.0 h, and-false)
+  pub ahead_not_in_time : n.0 < b.start.0 → false ≡ in_time b n
+  ahead_not_in_time h = simp (lt-leb b.start.0 n.0 h, and-false)
 
-  pub in-time-unless-cut : b.live ≡ true → b.start.0 ≤ n.0 → before_cut b.start n b.cut ≡ in_time b n
-  in-time-unless-cut l h = rw (l, le-leb b.start.0 n.0 h)
+  pub in_time_unless_cut : b.live ≡ true → b.start.0 ≤ n.0 → before_cut b.start n b.cut ≡ in_time b n
+  in_time_unless_cut l h = rw (l, le-leb b.start.0 n.0 h)
 
   -- a burst that is in time is not ahead
-  pub in-time-is-not-ahead : in_time b n ≡ true → b.start.0 ≤ n.0
-  in-time-is-not-ahead h =
+  pub in_time_is_not_ahead : in_time b n ≡ true → b.start.0 ≤ n.0
+  in_time_is_not_ahead h =
       leb-true b.start.0 n.0
       (both b.live (leb b.start.0 n.0) (both (b.live && leb b.start.0 n.0) (before_cut b.start n b.cut) h).0).1
 
@@ -40,26 +40,26 @@ module _ (b : Burst) (n : Clock) where
 
 module _ (b : Burst) (length : ℕ) (endless : Bool) (n : Clock) where
   -- none where the burst is not in time, whatever else holds
-  pub none-out-of-time : in_time b n ≡ false → has_beat b length endless n ≡ false
+  pub none_out_of_time : in_time b n ≡ false → has_beat b length endless n ≡ false
   unfolding has_beat
-  none-out-of-time h = rw h
+  none_out_of_time h = rw h
 
-  pub none-where-no-burst : b.live ≡ false → has_beat b length endless n ≡ false
-  none-where-no-burst h = none-out-of-time (sym (no-burst-in-time b n h))
+  pub none_where_no_burst : b.live ≡ false → has_beat b length endless n ≡ false
+  none_where_no_burst h = none_out_of_time (sym (no_burst_in_time b n h))
 
   -- in time, by what has gone by since the registration
-  pub beat-in-time : in_time b n ≡ true → has_beat b length endless n ≡ (endless || ltb (n.0 - b.start.0) length)
+  pub beat_in_time : in_time b n ≡ true → has_beat b length endless n ≡ (endless || ltb (n.0 - b.start.0) length)
   unfolding has_beat
-  beat-in-time h = rw (h, ltb_since n.0 b.start.0 length (in-time-is-not-ahead b n h))
+  beat_in_time h = rw (h, ltb_since n.0 b.start.0 length (in_time_is_not_ahead b n h))
 
-  pub beat-is-in-time : has_beat b length endless n ≡ true → in_time b n ≡ true
+  pub beat_is_in_time : has_beat b length endless n ≡ true → in_time b n ≡ true
   unfolding has_beat
-  beat-is-in-time h = (both (in_time b n) (endless || ltb n.0 (b.start.0 + length)) h).0
+  beat_is_in_time h = (both (in_time b n) (endless || ltb n.0 (b.start.0 + length)) h).0
 
 module _ (b : Burst) (masks : ℕ) (n : Clock) where
   pub quiet_write : in_time b n ≡ false → Quiet ≡ write_beat b masks n
   unfolding write_beat
-  quiet_write h = rw (none-out-of-time b (write_length b.word) (write_endless b.word) n h)
+  quiet_write h = rw (none_out_of_time b (write_length b.word) (write_endless b.word) n h)
 
 module _ (b : Burst) (n : Clock) where
   -- the clock of the fetch that is seen on clock n
@@ -67,23 +67,23 @@ module _ (b : Burst) (n : Clock) where
   fetch = clock (n.0 - latency b.word)
 
   pub reads_none : b.live ≡ false → false ≡ reads_on b n
-  reads_none h = rw (none-where-no-burst b (length_of b.word) (full_page b.word) fetch h, and-false)
+  reads_none h = rw (none_where_no_burst b (length_of b.word) (full_page b.word) fetch h, and-false)
 
   -- nor where the burst was not in time for it
-  pub reads-none-out-of-time : in_time b fetch ≡ false → false ≡ reads_on b n
-  reads-none-out-of-time h = rw (none-out-of-time b (length_of b.word) (full_page b.word) fetch h, and-false)
+  pub reads_none_out_of_time : in_time b fetch ≡ false → false ≡ reads_on b n
+  reads_none_out_of_time h = rw (none_out_of_time b (length_of b.word) (full_page b.word) fetch h, and-false)
 
-  pub reads-in-time : latency b.word ≤ n.0 → in_time b fetch ≡ true
+  pub reads_in_time : latency b.word ≤ n.0 → in_time b fetch ≡ true
       → (full_page b.word || ltb (n.0 - latency b.word - b.start.0) (length_of b.word)) ≡ reads_on b n
-  reads-in-time l h = rw (le-leb (latency b.word) n.0 l, beat-in-time b (length_of b.word) (full_page b.word) fetch h)
+  reads_in_time l h = rw (le-leb (latency b.word) n.0 l, beat_in_time b (length_of b.word) (full_page b.word) fetch h)
 
   -- a beat on the bus is one that was fetched CL clocks before, not before the registration
-  pub fetched-late : reads_on b n ≡ true → latency b.word ≤ n.0
-  fetched-late h =
+  pub fetched_late : reads_on b n ≡ true → latency b.word ≤ n.0
+  fetched_late h =
       leb-true _ _ (both (leb (latency b.word) n.0) (has_beat b (length_of b.word) (full_page b.word) fetch) h).0
 
-  pub fetched-since : reads_on b n ≡ true → b.start.0 ≤ n.0 - latency b.word
-  fetched-since h =
-      in-time-is-not-ahead b fetch
-      (beat-is-in-time b (length_of b.word) (full_page b.word) fetch
+  pub fetched_since : reads_on b n ≡ true → b.start.0 ≤ n.0 - latency b.word
+  fetched_since h =
+      in_time_is_not_ahead b fetch
+      (beat_is_in_time b (length_of b.word) (full_page b.word) fetch
       (both (leb (latency b.word) n.0) (has_beat b (length_of b.word) (full_page b.word) fetch) h).1)

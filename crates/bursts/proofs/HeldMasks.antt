@@ -12,17 +12,17 @@ pub past_three : (a b c clocks : ℕ) → 3 ≤ clocks → all_high ≡ get_or (
 past_three a b c clocks h = sym (get_or-eq_default (a ∷ b ∷ c ∷ []) all_high h)
 
 module _ (skipped masks : ℕ) (held : Masks) where
-  pub none-skipped : skipped ≡ 0
+  pub none_skipped : skipped ≡ 0
       → record { first = masks; second = held.first; third = held.second } ≡ masks_after skipped masks held
   unfolding masks_after
-  none-skipped e = rw (eq-eqb skipped 0 e)
+  none_skipped e = rw (eq-eqb skipped 0 e)
 
-  pub one-skipped : (skipped ≡ 0 → ⊥) → skipped ≡ 1
+  pub one_skipped : (skipped ≡ 0 → ⊥) → skipped ≡ 1
       → record { first = masks; second = all_high; third = held.first } ≡ masks_after skipped masks held
   unfolding masks_after
-  one-skipped n e = rw (ne_eqb skipped 0 n, eq-eqb skipped 1 e)
+  one_skipped n e = rw (ne_eqb skipped 0 n, eq-eqb skipped 1 e)
 
-  pub more-skipped : (skipped ≡ 0 → ⊥) → (skipped ≡ 1 → ⊥)
+  pub more_skipped : (skipped ≡ 0 → ⊥) → (skipped ≡ 1 → ⊥)
       → record { first = masks; second = all_high; third = all_high } ≡ masks_after skipped masks held
   unfolding masks_after
-  more-skipped n m = rw (ne_eqb skipped 0 n, ne_eqb skipped 1 m)
+  more_skipped n m = rw (ne_eqb skipped 0 n, ne_eqb skipped 1 m)

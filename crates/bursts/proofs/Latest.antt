@@ -10,8 +10,8 @@ use Rattle.bursts.specs.declared.Burst.{Burst}
 use Rattle.bursts.specs.declared.Beat.TheVariants.{Quiet}
 use Rattle.bursts.specs.Burst.{reads_on, read_beat}
 use Rattle.bursts.specs.Bus.{reads_beat}
-use Rattle.bursts.proofs.First.{first_of, is-first, is-second, is-third, is_none}
-use Rattle.bursts.proofs.Four.{burst, reads-beat-four}
+use Rattle.bursts.proofs.First.{first_of, is_first, is_second, is_third, is_none}
+use Rattle.bursts.proofs.Four.{burst, reads_beat_four}
 
 -- none of four
 none_of : (a b c d : Bool) → (a || (b || (c || d))) ≡ false → (a ≡ false) × (b ≡ false) × (c ≡ false) × (d ≡ false)
@@ -58,20 +58,20 @@ module _ (bs : List Burst) (h : length bs ≡ 4) (masks : ℕ) (n : Clock) where
         reads_beat bs masks n
         ≡ cond one (read_beat (burst bs 0) masks n)
         (cond two (read_beat (burst bs 1) masks n) (cond three (read_beat (burst bs 2) masks n) (cond d (read_beat (burst bs 3) masks n) Quiet)))
-    by_tests = rw (o, p, q, r) (reads-beat-four bs h masks n)
+    by_tests = rw (o, p, q, r) (reads_beat_four bs h masks n)
 
     pub none_runs : (a || (b || (c || d))) ≡ false → Quiet ≡ reads_beat bs masks n
     none_runs s = let k = none_of a b c d s in rw (by_tests, k.0, k.1, k.2, k.3)
 
     module _ (i : ℕ) (e : i ≡ first_of one two three) where
       pub first_runs : i ≡ 0 → read_beat (burst bs 0) masks n ≡ reads_beat bs masks n
-      first_runs g = rw (by_tests, is-first one two three i e g)
+      first_runs g = rw (by_tests, is_first one two three i e g)
 
       pub second_runs : (i ≡ 0 → ⊥) → i ≡ 1 → read_beat (burst bs 1) masks n ≡ reads_beat bs masks n
-      second_runs f g = let s = is-second one two three i e f g in rw (by_tests, s.0, s.1)
+      second_runs f g = let s = is_second one two three i e f g in rw (by_tests, s.0, s.1)
 
       pub third-runs : (i ≡ 0 → ⊥) → (i ≡ 1 → ⊥) → i ≡ 2 → read_beat (burst bs 2) masks n ≡ reads_beat bs masks n
-      third-runs f g k = let s = is-third one two three i e f g k in rw (by_tests, s.0, s.1, s.2)
+      third-runs f g k = let s = is_third one two three i e f g k in rw (by_tests, s.0, s.1, s.2)
 
       pub fourth-runs : (a || (b || (c || d))) ≡ true → (i ≡ 0 → ⊥) → (i ≡ 1 → ⊥) → (i ≡ 2 → ⊥)
           → read_beat (burst bs 3) masks n ≡ reads_beat bs masks n

@@ -8,11 +8,11 @@ use Rattle.units.specs.declared.Clock.{Clock}
 use Rattle.bursts.specs.declared.Burst.{Burst}
 use Rattle.bursts.specs.Burst.{to_come}
 use Rattle.bursts.specs.Bus.{makes_room, gives_way, with_room}
-use Rattle.bursts.proofs.First.{first_of, is-first, is-second, is-third, is_none}
+use Rattle.bursts.proofs.First.{first_of, is_first, is_second, is_third, is_none}
 use Rattle.bursts.proofs.Four.{burst, four}
 
 module _ (n : Clock) (bs : List Burst) (h : length bs ≡ 4) where
-  room-of-four :
+  room_of_four :
       with_room n bs
       ≡ cond
       (gives_way n (burst bs 0) (burst bs 1) && (gives_way n (burst bs 0) (burst bs 2) && gives_way n (burst bs 0) (burst bs 3)))
@@ -20,11 +20,11 @@ module _ (n : Clock) (bs : List Burst) (h : length bs ≡ 4) where
       (burst bs 0
       ∷ cond (gives_way n (burst bs 1) (burst bs 2) && gives_way n (burst bs 1) (burst bs 3)) (burst bs 2 ∷ burst bs 3 ∷ [])
       (burst bs 1 ∷ cond (gives_way n (burst bs 2) (burst bs 3)) (burst bs 3 ∷ []) (burst bs 2 ∷ [])))
-  room-of-four = ap (with_room n) (four bs h) ∙ simp and-true
+  room_of_four = ap (with_room n) (four bs h) ∙ simp and-true
 
   -- the fourth, where it has no beat to come
-  pub fourth-gives-way : to_come n (burst bs 3) ≡ false → with_room n bs ≡ (burst bs 0 ∷ burst bs 1 ∷ burst bs 2 ∷ [])
-  fourth-gives-way e = room-of-four ∙ simp (e, and-false)
+  pub fourth_gives_way : to_come n (burst bs 3) ≡ false → with_room n bs ≡ (burst bs 0 ∷ burst bs 1 ∷ burst bs 2 ∷ [])
+  fourth_gives_way e = room_of_four ∙ simp (e, and-false)
 
   -- else by three tests
   module _ (a b c : Bool) (p : a ≡ to_come n (burst bs 0)) (q : b ≡ to_come n (burst bs 1)) (r : c ≡ to_come n (burst bs 2))
@@ -55,7 +55,7 @@ module _ (n : Clock) (bs : List Burst) (h : length bs ≡ 4) where
         ≡ cond one (burst bs 1 ∷ burst bs 2 ∷ burst bs 3 ∷ [])
         (burst bs 0 ∷ cond two (burst bs 2 ∷ burst bs 3 ∷ []) (burst bs 1 ∷ cond three (burst bs 3 ∷ []) (burst bs 2 ∷ [])))
     by_tests =
-        room-of-four
+        room_of_four
         ∙ (λ j.
         let u = sym p j in
         let v = sym q j in
@@ -67,13 +67,13 @@ module _ (n : Clock) (bs : List Burst) (h : length bs ≡ 4) where
 
     module _ (i : ℕ) (e : i ≡ first_of one two three) where
       pub first_goes : i ≡ 0 → with_room n bs ≡ (burst bs 1 ∷ burst bs 2 ∷ burst bs 3 ∷ [])
-      first_goes g = rw (by_tests, is-first one two three i e g)
+      first_goes g = rw (by_tests, is_first one two three i e g)
 
       pub second-goes : (i ≡ 0 → ⊥) → i ≡ 1 → with_room n bs ≡ (burst bs 0 ∷ burst bs 2 ∷ burst bs 3 ∷ [])
-      second-goes f g = let s = is-second one two three i e f g in rw (by_tests, s.0, s.1)
+      second-goes f g = let s = is_second one two three i e f g in rw (by_tests, s.0, s.1)
 
       pub third-goes : (i ≡ 0 → ⊥) → (i ≡ 1 → ⊥) → i ≡ 2 → with_room n bs ≡ (burst bs 0 ∷ burst bs 1 ∷ burst bs 3 ∷ [])
-      third-goes f g k = let s = is-third one two three i e f g k in rw (by_tests, s.0, s.1, s.2)
+      third-goes f g k = let s = is_third one two three i e f g k in rw (by_tests, s.0, s.1, s.2)
 
       pub fourth-goes : (i ≡ 0 → ⊥) → (i ≡ 1 → ⊥) → (i ≡ 2 → ⊥) → with_room n bs ≡ (burst bs 0 ∷ burst bs 1 ∷ burst bs 2 ∷ [])
       fourth-goes f g k = let s = is_none one two three i e f g k in rw (by_tests, s.0, s.1, s.2)

@@ -26,7 +26,7 @@ use Rattle.bursts.specs.Bus.{
   one_before,
   bus_clear,
 }
-use Rattle.bursts.proofs.Four.{burst, reads-run-four}
+use Rattle.bursts.proofs.Four.{burst, reads_run_four}
 use Rattle.bursts.proofs.HasBeat.{reads_none}
 
 -- ── A beat of the READs ──
@@ -92,7 +92,7 @@ pub clear_four : (bs : List Burst) → length bs ≡ 4 → (x y : Bool) (n m : C
     && (neither x y (reads_on (burst bs 1) n) (reads_on (burst bs 1) m)
     && (neither x y (reads_on (burst bs 2) n) (reads_on (burst bs 2) m) && neither x y (reads_on (burst bs 3) n) (reads_on (burst bs 3) m))))
     ≡ (not (x && reads_run bs n) && not (y && reads_run bs m))
-clear_four bs h x y n m = rw (reads-run-four bs h n, reads-run-four bs h m, neither_of_all, neither_of_all, neither_of_all)
+clear_four bs h x y n m = rw (reads_run_four bs h n, reads_run_four bs h m, neither_of_all, neither_of_all, neither_of_all)
 
 -- ── By masks ──
 

@@ -26,22 +26,22 @@ pub cut_not_asked : (n : Clock) (b : Burst) → cut_if false n b ≡ b
 cut_not_asked n b = refl
 
 module _ (k : Command) (none : can_end k ≡ false) where
-  pub ends-none : (addr ba i : ℕ) → ends k addr ba i ≡ false
-  ends-none addr ba i =
+  pub ends_none : (addr ba i : ℕ) → ends k addr ba i ≡ false
+  ends_none addr ba i =
       let p = neither (access k || is k Terminate) (is k Precharge) none in
       rw (p.0, p.1)
 
   pub untouched : (addr ba : ℕ) (n : Clock) (b : Burst) → cut_by k addr ba n b ≡ b
-  untouched addr ba n b = rw (ends-none addr ba b.bank)
+  untouched addr ba n b = rw (ends_none addr ba b.bank)
 
-  pub all-untouched : (addr ba : ℕ) (n : Clock) (bs : List Burst) → cut_each k addr ba n bs ≡ bs
-  all-untouched addr ba n [] = refl
-  all-untouched addr ba n (b ∷ bs) = rw (untouched addr ba n b, all-untouched addr ba n bs)
+  pub all_untouched : (addr ba : ℕ) (n : Clock) (bs : List Burst) → cut_each k addr ba n bs ≡ bs
+  all_untouched addr ba n [] = refl
+  all_untouched addr ba n (b ∷ bs) = rw (untouched addr ba n b, all_untouched addr ba n bs)
 
-  pub reads-untouched : (r : Record) (n : Clock) (word row : ℕ) (bs : List Burst) → bs ≡ reads_after k r n word row bs
+  pub reads_untouched : (r : Record) (n : Clock) (word row : ℕ) (bs : List Burst) → bs ≡ reads_after k r n word row bs
   unfolding reads_from
-  reads-untouched r n word row bs =
+  reads_untouched r n word row bs =
       let p = neither (access k || is k Terminate) (is k Precharge) none in
       let q = neither (access k) (is k Terminate) p.0 in
       let s = neither (is k Read) (is k Write) q.0 in
-      rw (s.0, s.1, all-untouched r.addr r.ba n bs)
+      rw (s.0, s.1, all_untouched r.addr r.ba n bs)

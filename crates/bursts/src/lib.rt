@@ -2,6 +2,7 @@
 // `cuts` and `beats`, the masks of the last clocks in `masking`, and what is before the first record in `quiet`. The code of the bus, with its
 // four READs, is in crate `bus`.
 #![tactic(auto)]
+
 pub mod beats;
 pub mod cuts;
 pub mod masking;

@@ -18,6 +18,7 @@ pub fn two_before(n: Clock) -> Clock
 
 // The masks on clock m, where the last record stood on clock `last`: what is past it, or too far back, was skipped or
 // is not held.
+#[tactic(auto, unfolding(crate::specs::Bus::masks_on))]
 pub fn masks_on(last: Event, old: Masks, m: Clock) -> u8
     ensures { result ≡ masks_on last old m }
 {

@@ -31,7 +31,7 @@ use Rattle.rules.proofs.Runs.{by_answer}
 use Rattle.rules.proofs.Demand3.{Follows, demand_3, demand_3_before}
 use Rattle.device.proofs.FoldRun.{from_run, fold_run}
 use Rattle.admitting.proofs.Ladder.{records_ladder}
-use Rattle.device.proofs.Starts.{run_in, run_out, most_within, most_room, entry_of, records_within, records-refused, records-entered, records-past}
+use Rattle.device.proofs.Starts.{run_in, run_out, most_within, most_room, entry_of, records_within, records_refused, records_entered, records_past}
 
 -- ── Runs and records ──
 
@@ -86,14 +86,14 @@ module _ (u : Setup) (s : State) (bytes page beats : List ℕ) where
 
         go : (x : Bool) → leb (length bytes / 16) (room s) ≡ x → Called
         go true t =
-            let e = records-entered u s bytes page beats p t ∙ ap (λ rs. fold u s rs page beats) (sym (count true t)) in
+            let e = records_entered u s bytes page beats p t ∙ ap (λ rs. fold u s rs page beats) (sym (count true t)) in
             record {
               page_left = ap (λ (l : Left). l.page) e;
               beats-left = ap (λ (l : Left). l.beats) e;
               if-clean = λ h. (t, sym (ap (λ (l : Left). l.ran.verdict) (e ∙ fold_run u s seen page beats)) ∙ h);
             }
         go false t =
-            let e = records-past u s bytes page beats p t ∙ ap (λ rs. past_room (fold u s rs page beats)) (sym (count false t)) in
+            let e = records_past u s bytes page beats p t ∙ ap (λ rs. past_room (fold u s rs page beats)) (sym (count false t)) in
             record {
               page_left = ap (λ (l : Left). l.page) e;
               beats-left = ap (λ (l : Left). l.beats) e;
@@ -102,9 +102,9 @@ module _ (u : Setup) (s : State) (bytes page beats : List ℕ) where
 
 -- how many records a call takes, by what it finds before the first
 module _ (u : Setup) (s : State) (bytes : List ℕ) (lent : ℕ) where
-  taken-some : first_broken (records_rules u s (length bytes) lent) ≡ Taken
+  taken_some : first_broken (records_rules u s (length bytes) lent) ≡ Taken
       → taken_in u s bytes lent ≡ length (run u s (records_in s bytes)).lines
-  taken-some p = ap (λ v. length v.lines) (run_in u s bytes lent p)
+  taken_some p = ap (λ v. length v.lines) (run_in u s bytes lent p)
 
   taken_none : (n i : ℕ) → first_broken (records_rules u s (length bytes) lent) ≡ Refused n i → taken_in u s bytes lent ≡ 0
   taken_none n i p = ap (λ v. length v.lines) (run_out u s bytes lent n i p)
@@ -118,10 +118,10 @@ module _ (u : Setup) (s : State) (page beats : List ℕ) where
       go : (v : Verdict) → first_broken (records_rules u s 0 (length page)) ≡ v
           → ((records_call u s [] page beats).page ≡ page) × ((records_call u s [] page beats).beats ≡ beats)
       go Taken p =
-          let e = records-entered u s [] page beats p (le-leb (length {A = ℕ} [] / 16) (room s) (omega arith)) in
+          let e = records_entered u s [] page beats p (le-leb (length {A = ℕ} [] / 16) (room s) (omega arith)) in
           (ap (λ (l : Left). l.page) e, ap (λ (l : Left). l.beats) e)
       go (Refused n i) p =
-          let e = records-refused u s [] page beats n i p in
+          let e = records_refused u s [] page beats n i p in
           (ap (λ (l : Left). l.page) e, ap (λ (l : Left). l.beats) e)
 
 -- ── Demand 3 ──
@@ -143,10 +143,10 @@ module _ {t u : SpeedTable} (e : NowhereHarder t u) (ft : table_fits t ≡ true)
   part = take (16 * stop) bytes
 
   -- the same for either: where no number is above 2^41 it is the run
-  as-run : (v : Setup) → first_broken (records_rules v s (length bytes) (length page)) ≡ Taken → leb (length bytes / 16) (room s) ≡ true
+  as_run : (v : Setup) → first_broken (records_rules v s (length bytes) (length page)) ≡ Taken → leb (length bytes / 16) (room s) ≡ true
       → records_call v s bytes page beats ≡ from_run s rs page beats (run v s rs)
-  as-run v p h =
-      records-entered v s bytes page beats p h
+  as_run v p h =
+      records_entered v s bytes page beats p h
       ∙ sym (ap (λ (y : Bool). fold v s (records_of (state_module s) (cond y (length bytes / 16) (room s)) bytes) page beats) h)
       ∙ fold_run v s rs page beats
 
@@ -183,7 +183,7 @@ module _ {t u : SpeedTable} (e : NowhereHarder t u) (ft : table_fits t ≡ true)
         ≡ from_run s (take stop rs) page beats
         (record { verdict = Taken; reported = (run (setup t) s rs).reported; lines = (run (setup t) s rs).lines })
     part-run =
-        records-entered (setup u) s part page beats part-enters (le-leb (length part / 16) (room s) (omega (arith, some, in-room)))
+        records_entered (setup u) s part page beats part-enters (le-leb (length part / 16) (room s) (omega (arith, some, in-room)))
         ∙ ap (λ (k : ℕ). fold (setup u) s (records_of (state_module s) k part) page beats) some
         ∙ ap (λ l. fold (setup u) s l page beats)
         (records_within (state_module s) stop bytes ∙ sym (first_of (state_module s) stop (within_room s (length bytes / 16)) bytes few))
@@ -195,8 +195,8 @@ module _ {t u : SpeedTable} (e : NowhereHarder t u) (ft : table_fits t ≡ true)
         let q = sym (alike (length bytes)) ∙ p in
         let f = demand_3 e s rs in
         let c = called (setup t) s bytes page beats p in
-        let some-t = taken-some (setup t) s bytes (length page) p in
-        let some-u = taken-some (setup u) s bytes (length page) q in
+        let some-t = taken_some (setup t) s bytes (length page) p in
+        let some-u = taken_some (setup u) s bytes (length page) q in
         record {
           never_earlier = rw (some-t, some-u) (omega (arith, ap length f.lines ∙ length-append (run (setup t) s rs).lines f.more));
           beats_agree =
@@ -211,13 +211,13 @@ module _ {t u : SpeedTable} (e : NowhereHarder t u) (ft : table_fits t ≡ true)
           clean =
               λ h.
               let k = c.if-clean h in
-              as-run (setup u) q k.0 ∙ ap (from_run s rs page beats) (sym (f.clean k.1)) ∙ sym (as-run (setup t) p k.0);
+              as_run (setup u) q k.0 ∙ ap (from_run s rs page beats) (sym (f.clean k.1)) ∙ sym (as_run (setup t) p k.0);
         }
 
   refused : (n i : ℕ) → first_broken (records_rules (setup t) s (length bytes) (length page)) ≡ Refused n i → Demand3 (setup t) (setup u) s bytes page beats
   refused n i p =
       let q = sym (alike (length bytes)) ∙ p in
-      let gone = records-refused (setup t) s bytes page beats n i p in
+      let gone = records_refused (setup t) s bytes page beats n i p in
       let none-t = taken_none (setup t) s bytes (length page) n i p in
       let none-u = taken_none (setup u) s bytes (length page) n i q in
       record {

@@ -26,14 +26,14 @@ unfolding fold
 fold_run u s rs page beats = refl
 
 module _ (u : Setup) (s : State) (r : Record) (rs : List Record) (page beats : List ℕ) where
-  pub fold-taken : ask u s r ≡ Taken
+  pub fold_taken : ask u s r ≡ Taken
       → fold u s (r ∷ rs) page beats ≡ fold u (next u s r) rs (page_next s r page) (put_line s.core.number (line s r) beats)
   unfolding fold next core_after core_from page_after lines_into
-  fold-taken p = ap (from_run s (r ∷ rs) page beats) (run_taken u s r rs p)
+  fold_taken p = ap (from_run s (r ∷ rs) page beats) (run_taken u s r rs p)
 
-  pub fold-refused : (n i : ℕ) → ask u s r ≡ Refused n i → fold u s (r ∷ rs) page beats ≡ left (ran (Refused n i) s.core.number) page beats
+  pub fold_refused : (n i : ℕ) → ask u s r ≡ Refused n i → fold u s (r ∷ rs) page beats ≡ left (ran (Refused n i) s.core.number) page beats
   unfolding fold page_after lines_into
-  fold-refused n i p = ap (from_run s (r ∷ rs) page beats) (run_refused u s r rs n i p)
+  fold_refused n i p = ap (from_run s (r ∷ rs) page beats) (run_refused u s r rs n i p)
 
   -- ── With the state and the last beat ──
 

@@ -27,7 +27,7 @@ use Rattle.bursts.specs.declared.Bus.{Bus}
 use Rattle.bursts.specs.declared.Masks.{Masks}
 use Rattle.bursts.specs.declared.Beat.{Beat}
 use Rattle.bursts.specs.Bus.{masks_after, write_after, bus_after, beat_on}
-use Rattle.bursts.proofs.Untouched.{can_end, reads-untouched}
+use Rattle.bursts.proofs.Untouched.{can_end, reads_untouched}
 use Rattle.rules.specs.declared.StartUp.{StartUp}
 use Rattle.rules.specs.declared.Bank.{Bank}
 use Rattle.rules.specs.declared.Core.{Core}
@@ -71,17 +71,17 @@ pub bus_kept : (k : Command) → can_end k ≡ false → (r : Record) (n : Clock
 unfolding bus_after
 bus_kept k h r n word row u =
     let w = write_kept k h r n word row u.write in
-    let q = reads-untouched k h r n word row u.reads in
+    let q = reads_untouched k h r n word row u.reads in
     λ i. record { write = w i; reads = q i; masks = masks_after r.skipped r.masks u.masks }
 
 -- the bus as the loop leaves it: moved where the command can end a burst, and its masks set after that
 module _ (k : Command) (r : Record) (n : Clock) (word row : ℕ) (u : Bus) {b : Bus} {m : Masks} (hm : m ≡ masks_after r.skipped r.masks u.masks) where
-  pub bus-ended : b ≡ bus_after k r n word row u → record { write = b.write; reads = b.reads; masks = m } ≡ bus_after k r n word row u
+  pub bus_ended : b ≡ bus_after k r n word row u → record { write = b.write; reads = b.reads; masks = m } ≡ bus_after k r n word row u
   unfolding bus_after
-  bus-ended hb = rw (hb, hm)
+  bus_ended hb = rw (hb, hm)
 
-  pub bus-left : can_end k ≡ false → b ≡ u → record { write = b.write; reads = b.reads; masks = m } ≡ bus_after k r n word row u
-  bus-left h hb = rw (hb, hm) (bus_kept k h r n word row u)
+  pub bus_left : can_end k ≡ false → b ≡ u → record { write = b.write; reads = b.reads; masks = m } ≡ bus_after k r n word row u
+  bus_left h hb = rw (hb, hm) (bus_kept k h r n word row u)
 
 -- ── Start-up ──
 

@@ -32,7 +32,7 @@ use Rattle.rules.proofs.Runs.{next_number, page_next}
 use Rattle.device.specs.Engine.{Gone, gone, went, went_by}
 use Rattle.device.proofs.FoldRun.{went-taken, went-refused, went_none}
 use Rattle.admitting.proofs.Ladder.{records_ladder}
-use Rattle.device.proofs.Starts.{run_in, records-entered}
+use Rattle.device.proofs.Starts.{run_in, records_entered}
 use Rattle.device.proofs.Ready.{Ready, ready_of, ready_state, ready_next}
 
 -- ── Runs ──
@@ -166,14 +166,14 @@ module _ (u : Setup) (s : State) (k : ℕ) (bytes page beats : List ℕ) (long :
       ap (λ (x : Bool). records_of (state_module s) (cond x (length bytes / 16) (room s)) bytes) few
       ∙ ap (λ (x : ℕ). records_of (state_module s) x bytes) count
 
-  call-is : (w : Beat) → records_call u s bytes page beats ≡ folded (went_by u s (records_of (state_module s) k bytes) w page beats)
-  call-is w =
-      records-entered u s bytes page beats enters few
+  call_is : (w : Beat) → records_call u s bytes page beats ≡ folded (went_by u s (records_of (state_module s) k bytes) w page beats)
+  call_is w =
+      records_entered u s bytes page beats enters few
       ∙ ap (λ (x : ℕ). fold u s (records_of (state_module s) x bytes) page beats) count
       ∙ sym (as_fold u s (records_of (state_module s) k bytes) w page beats)
 
-  next-is : (w : Beat) → records_next u s bytes (length page) ≡ (went_by u s (records_of (state_module s) k bytes) w page beats).went.next
-  next-is w =
+  next_is : (w : Beat) → records_next u s bytes (length page) ≡ (went_by u s (records_of (state_module s) k bytes) w page beats).went.next
+  next_is w =
       ap (state_left u s (records_in s bytes)) (run_in u s bytes (length page) enters)
       ∙ ap (λ rs. state_left u s rs (run u s rs)) these
       ∙ sym (next_as u s (records_of (state_module s) k bytes) w page beats)
@@ -191,11 +191,11 @@ module _ (u : Setup) (s : State) (j k : ℕ) (a b page beats : List ℕ) (first 
   abbrev both : List ℕ
   both = a ++ b
 
-  abbrev went-a : Gone
-  went-a = went_by u s (records_of (state_module s) j a) Quiet page beats
+  abbrev went_a : Gone
+  went_a = went_by u s (records_of (state_module s) j a) Quiet page beats
 
-  abbrev went-both : Gone
-  went-both = went_by u s (records_of (state_module s) (longer j (suc k)) both) Quiet page beats
+  abbrev went_both : Gone
+  went_both = went_by u s (records_of (state_module s) (longer j (suc k)) both) Quiet page beats
 
   total : length both ≡ 16 * longer j (suc k)
   total = length-append a b ∙ omega (arith, first, second, longer_is j (suc k))
@@ -206,48 +206,48 @@ module _ (u : Setup) (s : State) (j k : ℕ) (a b page beats : List ℕ) (first 
   e : Ready u s (longer j (suc k)) page
   e = ready_of u s (longer j (suc k)) page p fits_both
 
-  joined : went-both ≡ then_on u (records_of (state_module s) (suc k) b) went-a
+  joined : went_both ≡ then_on u (records_of (state_module s) (suc k) b) went_a
   joined =
       ap (λ rs. went_by u s rs Quiet page beats) (records_join (state_module s) j (suc k) a b first)
       ∙ went_join u s (records_of (state_module s) j a) (records_of (state_module s) (suc k) b) Quiet page beats
 
-  a-is : after ≡ folded went-a
-  a-is = call-is u s j a page beats first (omega (arith, room_for)) p Quiet
+  a_is : after ≡ folded went_a
+  a_is = call_is u s j a page beats first (omega (arith, room_for)) p Quiet
 
   -- WHERE THE FIRST CALL REFUSES, BOTH JOINED ARE THE FIRST
-  pub joined-refused : (n i : ℕ) → after.ran.verdict ≡ Refused n i
+  pub joined_refused : (n i : ℕ) → after.ran.verdict ≡ Refused n i
       → (records_call u s both page beats ≡ after) × (records_next u s both (length page) ≡ then)
-  joined-refused n i h =
-      let v : went-a.went.verdict ≡ Refused n i = sym (ap (λ (l : Left). l.ran.verdict) a-is) ∙ h in
-      let stay : went-both ≡ went-a = joined ∙ then_none u (records_of (state_module s) (suc k) b) went-a n i v in (
-        call-is u s (longer j (suc k)) both page beats total fits_both p Quiet ∙ ap folded stay ∙ sym a-is,
-        next-is u s (longer j (suc k)) both page beats total fits_both p Quiet
+  joined_refused n i h =
+      let v : went_a.went.verdict ≡ Refused n i = sym (ap (λ (l : Left). l.ran.verdict) a_is) ∙ h in
+      let stay : went_both ≡ went_a = joined ∙ then_none u (records_of (state_module s) (suc k) b) went_a n i v in (
+        call_is u s (longer j (suc k)) both page beats total fits_both p Quiet ∙ ap folded stay ∙ sym a_is,
+        next_is u s (longer j (suc k)) both page beats total fits_both p Quiet
             ∙ ap (λ (g : Gone). g.went.next) stay
-            ∙ sym (next-is u s j a page beats first (omega (arith, room_for)) p Quiet),
+            ∙ sym (next_is u s j a page beats first (omega (arith, room_for)) p Quiet),
       )
 
   -- WHERE IT IS CLEAN, THEY ARE THE SECOND FROM THE STATE, PAGE AND BEATS THAT THE FIRST LEAVES
-  pub joined-clean : after.ran.verdict ≡ Taken
+  pub joined_clean : after.ran.verdict ≡ Taken
       → (records_call u s both page beats ≡ records_call u then b after.page after.beats)
       × (records_next u s both (length page) ≡ records_next u then b (length after.page))
-  joined-clean h =
-      let v : went-a.went.verdict ≡ Taken = sym (ap (λ (l : Left). l.ran.verdict) a-is) ∙ h in
+  joined_clean h =
+      let v : went_a.went.verdict ≡ Taken = sym (ap (λ (l : Left). l.ran.verdict) a_is) ∙ h in
       let c = clean u s j (suc k) a Quiet page beats e v in
-      let s1 = went-a.went.next in
-      let at : then ≡ s1 = next-is u s j a page beats first (omega (arith, room_for)) p Quiet in
-      let page1 : after.page ≡ went-a.page = ap (λ (l : Left). l.page) a-is in
-      let beats1 : after.beats ≡ went-a.beats = ap (λ (l : Left). l.beats) a-is in
-      let q = ready_state u s1 k went-a.page c.ready in
+      let s1 = went_a.went.next in
+      let at : then ≡ s1 = next_is u s j a page beats first (omega (arith, room_for)) p Quiet in
+      let page1 : after.page ≡ went_a.page = ap (λ (l : Left). l.page) a_is in
+      let beats1 : after.beats ≡ went_a.beats = ap (λ (l : Left). l.beats) a_is in
+      let q = ready_state u s1 k went_a.page c.ready in
       let here : s1.core.number + suc k ≤ suc number_max = omega (arith, c.number, room_for) in
-      let on : went-both ≡ went_by u s1 (records_of (state_module s1) (suc k) b) went-a.went.beat went-a.page went-a.beats =
-      joined ∙ rw (v, then_on) (ap (λ (m : Module). went_by u s1 (records_of m (suc k) b) went-a.went.beat went-a.page went-a.beats) (sym c.module_kept)) in
-      let w = went-a.went.beat in (
-        call-is u s (longer j (suc k)) both page beats total fits_both p Quiet
+      let on : went_both ≡ went_by u s1 (records_of (state_module s1) (suc k) b) went_a.went.beat went_a.page went_a.beats =
+      joined ∙ rw (v, then_on) (ap (λ (m : Module). went_by u s1 (records_of m (suc k) b) went_a.went.beat went_a.page went_a.beats) (sym c.module_kept)) in
+      let w = went_a.went.beat in (
+        call_is u s (longer j (suc k)) both page beats total fits_both p Quiet
             ∙ ap folded on
-            ∙ sym (call-is u s1 (suc k) b went-a.page went-a.beats second here q w)
+            ∙ sym (call_is u s1 (suc k) b went_a.page went_a.beats second here q w)
             ∙ sym (λ i. records_call u (at i) b (page1 i) (beats1 i)),
-        next-is u s (longer j (suc k)) both page beats total fits_both p Quiet
+        next_is u s (longer j (suc k)) both page beats total fits_both p Quiet
             ∙ ap (λ (g : Gone). g.went.next) on
-            ∙ sym (next-is u s1 (suc k) b went-a.page went-a.beats second here q w)
+            ∙ sym (next_is u s1 (suc k) b went_a.page went_a.beats second here q w)
             ∙ sym (λ i. records_next u (at i) b (length (page1 i))),
       )

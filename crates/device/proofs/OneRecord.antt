@@ -42,15 +42,15 @@ told s r = answer_of (number_of r.verdict) (interval_of r.verdict) (reported_by 
 
 -- a slice that is not one record
 module _ (u : Setup) (s : State) (bytes page : List ℕ) (h : eqb (record_number (read_record (state_module s) bytes)) 0 ≡ false) where
-  wrong-out : first_broken (entry_rules u s bytes page) ≡ Refused 1 0
+  wrong_out : first_broken (entry_rules u s bytes page) ≡ Refused 1 0
   unfolding entry_rules
-  wrong-out = rw h
+  wrong_out = rw h
 
-  pub ask-wrong : ask_call u s bytes page ≡ answer_of 1 0 0 Quiet
-  ask-wrong = asked-out u s bytes page 1 0 wrong-out
+  pub ask_wrong : ask_call u s bytes page ≡ answer_of 1 0 0 Quiet
+  ask_wrong = asked-out u s bytes page 1 0 wrong_out
 
-  pub take-wrong : take_call u s bytes page ≡ took Quiet s page
-  take-wrong = took-out u s bytes page 1 0 wrong-out
+  pub take_wrong : take_call u s bytes page ≡ took Quiet s page
+  take_wrong = took-out u s bytes page 1 0 wrong_out
 
 -- one of 16 bytes
 module _ (u : Setup) (s : State) (bytes page : List ℕ) (sixteen : length bytes ≡ 16) where

@@ -101,9 +101,9 @@ ready_entered u s count bytes page e h = rw (sixteen_pass (state_module s) bytes
 
 -- a taken record leaves the same for one record less
 module _ (u : Setup) (s : State) (k : ℕ) (r : Record) (page : List ℕ) where
-  pub ready-after : Ready u s (suc k) page → Widths r → OnModule (state_module s) r → ask u s r ≡ Taken → Ready u (next u s r) k (page_next s r page)
+  pub ready_after : Ready u s (suc k) page → Widths r → OnModule (state_module s) r → ask u s r ≡ Taken → Ready u (next u s r) k (page_next s r page)
   unfolding next core_after core_from
-  ready-after e w o p =
+  ready_after e w o p =
       record {
         able = able_next u s k r (subst (λ (c : ℕ). Able u s c) (sym (add-one k)) e.able) w o p;
         period = e.period;
@@ -115,4 +115,4 @@ module _ (u : Setup) (s : State) (k : ℕ) (r : Record) (page : List ℕ) where
 pub ready_next : (u : Setup) (s : State) (k : ℕ) (bytes page : List ℕ) → Ready u s (suc k) page → ask u s (record_for s bytes) ≡ Taken
     → Ready u (next u s (record_for s bytes)) k (page_next s (record_for s bytes) page)
 ready_next u s k bytes page e p =
-    ready-after u s k (record_for s bytes) page e (record_fits (state_module s) bytes) (record_on (state_module s) bytes) p
+    ready_after u s k (record_for s bytes) page e (record_fits (state_module s) bytes) (record_on (state_module s) bytes) p

@@ -172,8 +172,8 @@ module _ (u : Setup) (s : State) (bytes : List ℕ) (lent : ℕ) where
         part-is = same-part ∙ ap (λ (x : ℕ). records_of (state_module s) x bytes) e
 
         -- the state and the beat that the engine leaves
-        pub next-is : state_left u s part (run u s part) ≡ records_next u s bytes lent
-        next-is = ap (λ rs. state_left u s rs (run u s rs)) part-is ∙ sym (ap (state_left u s (records_in s bytes)) (run_in p))
+        pub next_is : state_left u s part (run u s part) ≡ records_next u s bytes lent
+        next_is = ap (λ rs. state_left u s rs (run u s rs)) part-is ∙ sym (ap (state_left u s (records_in s bytes)) (run_in p))
 
         pub beat-is : beat_left (run u s part) ≡ beat_left (call_run u s bytes lent)
         beat-is = ap (λ rs. beat_left (run u s rs)) part-is ∙ sym (ap beat_left (run_in p))
@@ -216,7 +216,7 @@ module _ (u : Setup) (s : State) (bytes : List ℕ) (lent : ℕ) where
 
           pub next-left : w.next ≡ records_next u s bytes lent
           unfolding went_by
-          next-left = ap (λ (x : Gone). x.went.next) g ∙ next-is
+          next-left = ap (λ (x : Gone). x.went.next) g ∙ next_is
 
           pub last-left : w.beat ≡ beat_left (call_run u s bytes lent)
           unfolding went_by
@@ -242,23 +242,23 @@ module _ (u : Setup) (s : State) (bytes : List ℕ) (lent n i : ℕ) (p : first_
   abbrev none : Run
   none = record { verdict = Refused n i; reported = 0; lines = [] }
 
-  pub next-out : s ≡ records_next u s bytes lent
-  next-out =
+  pub next_out : s ≡ records_next u s bytes lent
+  next_out =
       sym (ap (state_left u s (records_in s bytes)) (run_out u s bytes lent n i p) ∙ state_same u s (records_in s bytes) none refl)
 
-  pub beat-out : ◌≡◌ {A = Beat} Quiet (beat_left (call_run u s bytes lent))
-  beat-out = sym (ap beat_left (run_out u s bytes lent n i p))
+  pub beat_out : ◌≡◌ {A = Beat} Quiet (beat_left (call_run u s bytes lent))
+  beat_out = sym (ap beat_left (run_out u s bytes lent n i p))
 
 -- the same of a call that lends the page for which number 7 is asked
 module _ (u : Setup) (s : State) (bytes page beats : List ℕ) where
-  pub records-refused : (n i : ℕ) → first_broken (records_rules u s (length bytes) (length page)) ≡ Refused n i
+  pub records_refused : (n i : ℕ) → first_broken (records_rules u s (length bytes) (length page)) ≡ Refused n i
       → records_call u s bytes page beats ≡ left (ran (Refused n i) 0) page beats
-  records-refused = lent-refused u s bytes (length page) page beats
+  records_refused = lent-refused u s bytes (length page) page beats
 
-  pub records-entered : first_broken (records_rules u s (length bytes) (length page)) ≡ Taken → leb (length bytes / 16) (room s) ≡ true
+  pub records_entered : first_broken (records_rules u s (length bytes) (length page)) ≡ Taken → leb (length bytes / 16) (room s) ≡ true
       → records_call u s bytes page beats ≡ fold u s (records_of (state_module s) (length bytes / 16) bytes) page beats
-  records-entered = lent-entered u s bytes (length page) page beats
+  records_entered = lent-entered u s bytes (length page) page beats
 
-  pub records-past : first_broken (records_rules u s (length bytes) (length page)) ≡ Taken → leb (length bytes / 16) (room s) ≡ false
+  pub records_past : first_broken (records_rules u s (length bytes) (length page)) ≡ Taken → leb (length bytes / 16) (room s) ≡ false
       → records_call u s bytes page beats ≡ past_room (fold u s (records_of (state_module s) (room s) bytes) page beats)
-  records-past = lent-past u s bytes (length page) page beats
+  records_past = lent-past u s bytes (length page) page beats

@@ -22,7 +22,7 @@ use Rattle.rules.specs.OneRecord.{state_rules}
 use Rattle.rules.specs.Report.{lines_into, left, ran, fold, records_rules, room, records_call}
 use Rattle.rules.proofs.Admitted.{fits_admitted}
 use Rattle.rules.proofs.Kept.{kept}
-use Rattle.device.proofs.Starts.{records-entered}
+use Rattle.device.proofs.Starts.{records_entered}
 use Rattle.device.proofs.FoldRun.{fold_run}
 use Rattle.hawsehole.specs.Trace.{lent_rules, whole_rules, start_of, records, run_of, judged, judge, module_in}
 use Rattle.hawsehole.specs.Numbers.{whole_call}
@@ -63,8 +63,8 @@ module _ (u : Setup) (trace page beats : List ℕ) (p : entry u trace page ≡ T
   long =
       eqb-true _ _ (kept 1 0 (whole_rules u (header_of trace) (length trace) (length page)) (by_header u trace page p))
 
-  pub rest-long : length (drop 16 trace) ≡ 16 * (header_of trace).count
-  rest-long = simp length-drop (omega (arith, long))
+  pub rest_long : length (drop 16 trace) ≡ 16 * (header_of trace).count
+  rest_long = simp length-drop (omega (arith, long))
 
   -- the start state passes what the call of many records tries
   pub enters : first_broken (records_rules u (start_of (header_of trace)) (length (drop 16 trace)) (length page)) ≡ Taken
@@ -74,18 +74,18 @@ module _ (u : Setup) (trace page beats : List ℕ) (p : entry u trace page ≡ T
       let q = by_header u trace page p in
       let c = (header_of trace).count in
       let none : 16 * c % 16 ≡ 0 = omega arith in
-      rw (rest-long, eq-eqb (16 * c % 16) 0 none, kept 3 0 l q, kept 4 0 l q, kept 6 0 l q, kept 7 0 l q, fits_admitted (start_of (header_of trace)) (start_of_admitted trace (kept 4 0 l q)))
+      rw (rest_long, eq-eqb (16 * c % 16) 0 none, kept 3 0 l q, kept 4 0 l q, kept 6 0 l q, kept 7 0 l q, fits_admitted (start_of (header_of trace)) (start_of_admitted trace (kept 4 0 l q)))
 
   -- no trace has so many records that one's number is above 2^41
   pub few : leb (length (drop 16 trace) / 16) (room (start_of (header_of trace))) ≡ true
   few =
-      le-leb (length (drop 16 trace) / 16) (room (start_of (header_of trace))) (omega (arith, rest-long, (header_fits trace).count))
+      le-leb (length (drop 16 trace) / 16) (room (start_of (header_of trace))) (omega (arith, rest_long, (header_fits trace).count))
 
-  pub call-records : records_call u (start_of (header_of trace)) (drop 16 trace) page beats ≡ whole_call u trace page beats
+  pub call_records : records_call u (start_of (header_of trace)) (drop 16 trace) page beats ≡ whole_call u trace page beats
   unfolding whole_call
-  call-records =
-      let count : length (drop 16 trace) / 16 ≡ (header_of trace).count = omega (arith, rest-long) in
-      records-entered u (start_of (header_of trace)) (drop 16 trace) page beats enters few
+  call_records =
+      let count : length (drop 16 trace) / 16 ≡ (header_of trace).count = omega (arith, rest_long) in
+      records_entered u (start_of (header_of trace)) (drop 16 trace) page beats enters few
       ∙ ap (λ (k : ℕ). fold u (start_of (header_of trace)) (records_of (module_in trace) k (drop 16 trace)) page beats) count
       ∙ fold_run u (start_of (header_of trace)) (records trace) page beats
       ∙ sym (rw (judge_entered u trace page p))

@@ -33,42 +33,42 @@ follows_self a = record { more = []; lines = simp append-nil; no_earlier = omega
 
 module _ {t u : SpeedTable} (e : NowhereHarder t u) (fit-t : table_fits t ≡ true) (fit-u : table_fits u ≡ true) (trace page : List ℕ) where
   -- two admitted tables pass and fail 1 to 7 alike
-  entry-alike : entry (setup t) trace page ≡ entry (setup u) trace page
+  entry_alike : entry (setup t) trace page ≡ entry (setup u) trace page
   unfolding whole_rules lent_rules
-  entry-alike = rw (fit-t, fit-u)
+  entry_alike = rw (fit-t, fit-u)
 
   -- DEMAND 3: the second table does not stop at an earlier record, and its beats are the first's up to the first's stop
-  pub demand-3-whole : FollowsWhole (judge (setup t) trace page) (judge (setup u) trace page)
-  demand-3-whole = go (entry (setup t) trace page) refl
+  pub demand_3_whole : FollowsWhole (judge (setup t) trace page) (judge (setup u) trace page)
+  demand_3_whole = go (entry (setup t) trace page) refl
     where
       go : (v : Verdict) → entry (setup t) trace page ≡ v → FollowsWhole (judge (setup t) trace page) (judge (setup u) trace page)
       go Taken p =
           let f = demand_3 e (start_of (header_of trace)) (records trace) in
-          rw (judge_entered (setup t) trace page p, judge_entered (setup u) trace page (sym entry-alike ∙ p))
+          rw (judge_entered (setup t) trace page p, judge_entered (setup u) trace page (sym entry_alike ∙ p))
           (record { more = f.more; lines = f.lines; no_earlier = f.no_earlier; clean = λ h. ap (judged trace page) (f.clean h) })
       go (Refused n i) p =
-          rw (judge_refused (setup t) trace page n i p, judge_refused (setup u) trace page n i (sym entry-alike ∙ p)) (follows_self (refused n i page))
+          rw (judge_refused (setup t) trace page n i p, judge_refused (setup u) trace page n i (sym entry_alike ∙ p)) (follows_self (refused n i page))
 
   -- the page agrees at each record up to the first table's stop
-  pub pages-agree : (k : ℕ) → k ≤ length (judge (setup t) trace page).lines → page_when (setup t) trace page k ≡ page_when (setup u) trace page k
-  pages-agree k h =
+  pub pages_agree : (k : ℕ) → k ≤ length (judge (setup t) trace page).lines → page_when (setup t) trace page k ≡ page_when (setup u) trace page k
+  pages_agree k h =
       ap (λ (l : List Line). page_of trace l page)
-      (sym (ap (take k) demand-3-whole.lines ∙ take-append-le k (judge (setup t) trace page).lines demand-3-whole.more h))
+      (sym (ap (take k) demand_3_whole.lines ∙ take-append-le k (judge (setup t) trace page).lines demand_3_whole.more h))
 
   -- the page that the first table leaves is the second's at that record
-  pub page-at-stop : (judge (setup t) trace page).page ≡ page_when (setup u) trace page (length (judge (setup t) trace page).lines)
-  page-at-stop =
+  pub page_at_stop : (judge (setup t) trace page).page ≡ page_when (setup u) trace page (length (judge (setup t) trace page).lines)
+  page_at_stop =
       page_is (setup t) trace page
       ∙ ap (λ (l : List Line). page_of trace l page)
-      (sym (ap (take (length (judge (setup t) trace page).lines)) demand-3-whole.lines ∙ take_at (judge (setup t) trace page).lines demand-3-whole.more (length (judge (setup t) trace page).lines) refl))
+      (sym (ap (take (length (judge (setup t) trace page).lines)) demand_3_whole.lines ∙ take_at (judge (setup t) trace page).lines demand_3_whole.more (length (judge (setup t) trace page).lines) refl))
 
 -- DEMAND 3 HOLDS of the whole-trace judge
 pub demand_3_holds : Demand3Holds
 demand_3_holds t u e ft fu trace page =
-    let f = demand-3-whole e ft fu trace page in
+    let f = demand_3_whole e ft fu trace page in
     record {
       never_earlier = f.no_earlier;
       beats_agree = ap (take (length (judge (setup t) trace page).lines)) f.lines ∙ take_at (judge (setup t) trace page).lines f.more (length (judge (setup t) trace page).lines) refl;
-      page_agrees = sym (page-at-stop e ft fu trace page);
+      page_agrees = sym (page_at_stop e ft fu trace page);
       clean = λ h. sym (f.clean h);
     }

@@ -23,7 +23,7 @@ use Rattle.asking.proofs.Ladders.{then_taken, first_join}
 use Rattle.device.proofs.OneRecord.{not_sixteen}
 use Rattle.words.specs.Words.{state_words, state_in, words_of, put_words, holds}
 use Rattle.words.specs.Narrow.{Narrow}
-use Rattle.words.proofs.Stores.{words-length, put_all}
+use Rattle.words.proofs.Stores.{words_length, put_all}
 use Rattle.words.proofs.ReadBack.{read_back, held}
 use Rattle.hawsehole.specs.Numbers.{word_of}
 use Rattle.hawsehole.specs.Monitor.{monitor_rules, word_for, ask_words, monitored, last_clock, take_words}
@@ -34,7 +34,7 @@ module _ (u : Setup) (s : State) (h : Narrow s) (bytes page : List ℕ) where
   of_words : first_broken (monitor_rules u (words_of s) (length bytes) (length page)) ≡ first_broken (rule 1 0 (eqb (length bytes) 16) ∷ state_rules u s (length page))
   unfolding monitor_rules
   of_words =
-      rw (eq-eqb (length (words_of s)) state_words (words-length s h.four_reads h.four_banks), read_back s h, held s h) (go (eqb (length bytes) 16))
+      rw (eq-eqb (length (words_of s)) state_words (words_length s h.four_reads h.four_banks), read_back s h, held s h) (go (eqb (length bytes) 16))
     where
       go : (x : Bool) → first_broken (rule 1 0 x ∷ (state_rules u s (length page) ++ (rule 25 0 true ∷ []))) ≡ first_broken (rule 1 0 x ∷ state_rules u s (length page))
       go true = first_join (state_rules u s (length page)) (rule 25 0 true ∷ []) ∙ then_taken (first_broken (state_rules u s (length page)))
@@ -49,8 +49,8 @@ module _ (u : Setup) (s : State) (h : Narrow s) (bytes page : List ℕ) where
       go false e = e ∙ sym (not_sixteen (state_module s) bytes (eqb-false (length bytes) 16 e))
 
   -- ASKING BY WORDS IS ASKING
-  pub ask-as : ask_words u (words_of s) bytes page ≡ word_for (ask_call u s bytes page)
-  ask-as = go (first_broken (entry_rules u s bytes page)) refl
+  pub ask_as : ask_words u (words_of s) bytes page ≡ word_for (ask_call u s bytes page)
+  ask_as = go (first_broken (entry_rules u s bytes page)) refl
     where
       go : (v : Verdict) → first_broken (entry_rules u s bytes page) ≡ v → ask_words u (words_of s) bytes page ≡ word_for (ask_call u s bytes page)
       go Taken p = ask_in u (words_of s) bytes page (entered ∙ p) ∙ ap (λ (x : State). word_for (ask_call u x bytes page)) (read_back s h)
@@ -60,14 +60,14 @@ module _ (u : Setup) (s : State) (h : Narrow s) (bytes page : List ℕ) where
   zero_word n i k z = omega (arith, z)
 
   -- TAKING BY WORDS IS TAKING: the words of the next state, its page, and its beat
-  pub take-as : (beat : List ℕ) → (ask_call u s bytes page).number ≡ 0 → Narrow (take_call u s bytes page).next
+  pub take_as : (beat : List ℕ) → (ask_call u s bytes page).number ≡ 0 → Narrow (take_call u s bytes page).next
       → take_words u (words_of s) bytes page beat
       ≡ monitored (word_for (ask_call u s bytes page)) (words_of (take_call u s bytes page).next) (take_call u s bytes page).page
       (put_line 0 (record { clock = last_clock (take_call u s bytes page).next.core.last; beat = (take_call u s bytes page).beat }) beat)
-  take-as beat z g =
+  take_as beat z g =
       let t = take_call u s bytes page in
       let a = ask_call u s bytes page in
-      let long : length (words_of s) ≡ length (words_of t.next) = words-length s h.four_reads h.four_banks ∙ sym (words-length t.next g.four_reads g.four_banks) in
+      let long : length (words_of s) ≡ length (words_of t.next) = words_length s h.four_reads h.four_banks ∙ sym (words_length t.next g.four_reads g.four_banks) in
       sym
-      (take_in u (words_of s) bytes page beat (sym ask-as) (zero_word a.number a.interval a.reported z) (ap (λ (x : State). take_call u x bytes page) (sym (read_back s h)))
+      (take_in u (words_of s) bytes page beat (sym ask_as) (zero_word a.number a.interval a.reported z) (ap (λ (x : State). take_call u x bytes page) (sym (read_back s h)))
       (sym (put_all (words_of t.next) (words_of s) long)) refl)

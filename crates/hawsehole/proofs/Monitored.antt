@@ -83,15 +83,15 @@ start_fits words period grade bank row p =
     rows-most Handheld = omega arith
 
 module _ (words : List ℕ) (period grade bank row : ℕ) where
-  pub start-out : (n i : ℕ) → first_broken (start_rules (length words) period grade bank row) ≡ Refused n i
+  pub start_out : (n i : ℕ) → first_broken (start_rules (length words) period grade bank row) ≡ Refused n i
       → start_call words period grade bank row ≡ started n words
   unfolding start_call
-  start-out n i p = rw (p, start_call)
+  start_out n i p = rw (p, start_call)
 
-  pub start-in : first_broken (start_rules (length words) period grade bank row) ≡ Taken
+  pub start_in : first_broken (start_rules (length words) period grade bank row) ≡ Taken
       → start_call words period grade bank row ≡ started 0 (put_words (words_of (start (time period) grade bank row)) words)
   unfolding start_call
-  start-in p = rw (p, start_call)
+  start_in p = rw (p, start_call)
 
 -- ── Asking ──
 
@@ -134,13 +134,13 @@ module _ (u : Setup) (words bytes page : List ℕ) where
   unfolding ask_words
   ask_in p = rw (p, ask_words)
 
-  pub ask-short : (length bytes ≡ 16 → ⊥) → 1 ≡ ask_words u words bytes page
+  pub ask_short : (length bytes ≡ 16 → ⊥) → 1 ≡ ask_words u words bytes page
   unfolding monitor_rules
-  ask-short h = sym (ask_out 1 0 (rw (ne_eqb (length bytes) 16 h)))
+  ask_short h = sym (ask_out 1 0 (rw (ne_eqb (length bytes) 16 h)))
 
-  pub ask-few : length bytes ≡ 16 → (length words ≡ state_words → ⊥) → 25 ≡ ask_words u words bytes page
+  pub ask_few : length bytes ≡ 16 → (length words ≡ state_words → ⊥) → 25 ≡ ask_words u words bytes page
   unfolding monitor_rules
-  ask-few e h = sym (ask_out 25 0 (rw (eq-eqb (length bytes) 16 e, ne_eqb (length words) state_words h)))
+  ask_few e h = sym (ask_out 25 0 (rw (eq-eqb (length bytes) 16 e, ne_eqb (length words) state_words h)))
 
   -- one record and the words of one state, by whether they hold it
   module _ (sixteen : length bytes ≡ 16) (all : length words ≡ state_words) where
@@ -198,10 +198,10 @@ module _ (u : Setup) (words bytes page : List ℕ) where
   -- ── Taking ──
 
   -- two words are a line
-  pub beat-put : (w : Beat) (n : Clock) (beat : List ℕ) {b1 b2 : List ℕ} {x : ℕ} {m : Clock} → x ≡ beat_word w → b1 ≡ set beat 0 x → m ≡ n
+  pub beat_put : (w : Beat) (n : Clock) (beat : List ℕ) {b1 b2 : List ℕ} {x : ℕ} {m : Clock} → x ≡ beat_word w → b1 ≡ set beat 0 x → m ≡ n
       → b2 ≡ set b1 1 m.0 → b2 ≡ put_line 0 (record { clock = n; beat = w }) beat
   unfolding put_line
-  beat-put w n beat hx h1 hm h2 = rw (h2, h1, hm, hx)
+  beat_put w n beat hx h1 hm h2 = rw (h2, h1, hm, hx)
 
   module _ (beat : List ℕ) {w : ℕ} (e : w ≡ ask_words u words bytes page) where
     pub take_out : (w % 2 ^ 8 ≡ 0 → ⊥) → monitored w words page beat ≡ take_words u words bytes page beat

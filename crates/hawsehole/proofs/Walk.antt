@@ -38,15 +38,15 @@ use Rattle.rules.proofs.Runs.{next_number, page_next}
 use Rattle.rules.proofs.OneRecord.{refused, taken, step-refuses, entry-refused, taken_at_zero, step_taken}
 use Rattle.rules.specs.Calls.{Able}
 use Rattle.admitting.proofs.Ladder.{records_ladder}
-use Rattle.device.proofs.Starts.{Entry, entry_of, records-entered, records-past}
+use Rattle.device.proofs.Starts.{Entry, entry_of, records_entered, records_past}
 use Rattle.device.proofs.Ready.{Ready, ready_of, ready_entered, ready_next}
 use Rattle.device.proofs.Joined.{longer, longer_is}
-use Rattle.device.proofs.FoldRun.{fold-taken, fold-refused}
+use Rattle.device.proofs.FoldRun.{fold_taken, fold_refused}
 use Rattle.hawsehole.specs.Trace.{start_of}
 use Rattle.hawsehole.specs.Numbers.{whole_call}
 use Rattle.hawsehole.specs.Walk.{walk}
 use Rattle.hawsehole.proofs.Whole.{entry}
-use Rattle.hawsehole.proofs.Calls.{rest-long, enters, call-records}
+use Rattle.hawsehole.proofs.Calls.{rest_long, enters, call_records}
 
 -- ── One call ──
 
@@ -55,11 +55,11 @@ module _ (u : Setup) (s : State) (k : ℕ) (bytes page beats : List ℕ) where
   first = record_for s (take 16 bytes)
 
   -- a call that takes its record
-  walk-taken : step u s (take 16 bytes) page ≡ taken u s first page
+  walk_taken : step u s (take 16 bytes) page ≡ taken u s first page
       → walk u s (suc k) bytes page beats
       ≡ walk u (next u s first) k (drop 16 bytes) (page_next s first page) (put_line s.core.number (line s first) beats)
   unfolding walk next core_after core_from
-  walk-taken p = rw (p, walk)
+  walk_taken p = rw (p, walk)
 
   -- one that refuses it, with another number than 0
   walk_refused : (n i : ℕ) → step u s (take 16 bytes) page ≡ refused n i s.core.number s page → eqb n 0 ≡ false
@@ -72,7 +72,7 @@ module _ (u : Setup) (s : State) (k : ℕ) (bytes page beats : List ℕ) where
     asked-taken : ask u s first ≡ Taken
         → walk u s (suc k) bytes page beats
         ≡ walk u (next u s first) k (drop 16 bytes) (page_next s first page) (put_line s.core.number (line s first) beats)
-    asked-taken q = walk-taken (step_taken u s (take 16 bytes) page (record { entered = p; asked = q }))
+    asked-taken q = walk_taken (step_taken u s (take 16 bytes) page (record { entered = p; asked = q }))
 
     -- no row that a record meets has number 0
     asked-refused : (n i : ℕ) → ask u s first ≡ Refused n i
@@ -99,15 +99,15 @@ module _ (u : Setup) (more total : ℕ) (after : Left → Left)
     (refusal : (n i k : ℕ) (page beats : List ℕ) → after (left (ran (Refused n i) k) page beats) ≡ left (ran (Refused n i) k) page beats)
     (base : (s : State) (bytes page beats : List ℕ) → length bytes ≡ 16 * more → Ready u s 0 page → s.core.number ≡ total
     → walk u s more bytes page beats ≡ after (left (ran Taken s.core.number) page beats)) where
-  ready-walk : (s : State) (count : ℕ) (bytes page beats : List ℕ) → length bytes ≡ 16 * longer count more → Ready u s count page
+  ready_walk : (s : State) (count : ℕ) (bytes page beats : List ℕ) → length bytes ≡ 16 * longer count more → Ready u s count page
       → s.core.number + count ≡ total
       → walk u s (longer count more) bytes page beats ≡ after (fold u s (records_of (state_module s) count bytes) page beats)
   unfolding walk fold run page_after lines_into records_of next core_after core_from
-  ready-walk s zero bytes page beats h e k = base s bytes page beats h e (omega (arith, k))
-  ready-walk s (suc c) bytes page beats h e k =
+  ready_walk s zero bytes page beats h e k = base s bytes page beats h e (omega (arith, k))
+  ready_walk s (suc c) bytes page beats h e k =
       go (ask u s r) refl
       (λ p.
-      ready-walk (next u s r) c (drop 16 bytes) (page_next s r page) (put_line s.core.number (line s r) beats) rest
+      ready_walk (next u s r) c (drop 16 bytes) (page_next s r page) (put_line s.core.number (line s r) beats) rest
       (ready_next u s c (take 16 bytes) page e p) (omega (arith, k, next_number u s r)))
     where
       r : Record
@@ -128,11 +128,11 @@ module _ (u : Setup) (more total : ℕ) (after : Left → Left)
       go Taken p ih =
           asked-taken u s (longer c more) bytes page beats enter p
           ∙ ih p
-          ∙ ap after (sym (fold-taken u s r (records_of (state_module s) c (drop 16 bytes)) page beats p))
+          ∙ ap after (sym (fold_taken u s r (records_of (state_module s) c (drop 16 bytes)) page beats p))
       go (Refused n i) p ih =
           asked-refused u s (longer c more) bytes page beats enter n i p
           ∙ sym (refusal n i s.core.number page beats)
-          ∙ ap after (sym (fold-refused u s r (records_of (state_module s) c (drop 16 bytes)) page beats n i p))
+          ∙ ap after (sym (fold_refused u s r (records_of (state_module s) c (drop 16 bytes)) page beats n i p))
 
 -- ── A record number above 2^41 ──
 
@@ -188,24 +188,24 @@ walk_records u s bytes page beats p = go (leb count (room s)) refl
     go true t =
         let n : longer count 0 ≡ count = longer_is count 0 ∙ omega arith in
         ap (λ (k : ℕ). walk u s k bytes page beats) (sym n)
-        ∙ ready-walk u 0 (s.core.number + count) (λ l. l) (λ n i k page beats. refl) (λ r b pg bt h q k. walk_none u r b pg bt) s count bytes page beats
+        ∙ ready_walk u 0 (s.core.number + count) (λ l. l) (λ n i k page beats. refl) (λ r b pg bt h q k. walk_none u r b pg bt) s count bytes page beats
         (omega (arith, whole, n)) (some true t) refl
-        ∙ sym (records-entered u s bytes page beats p t)
+        ∙ sym (records_entered u s bytes page beats p t)
     go false t =
         let over : room s < count = leb-false count (room s) t in
         let left_over : suc (count - suc (room s)) ≡ count - room s = omega (arith, over) in
         let n : longer (room s) (suc (count - suc (room s))) ≡ count = longer_is (room s) (suc (count - suc (room s))) ∙ omega (arith, over) in
         ap (λ (k : ℕ). walk u s k bytes page beats) (sym n)
-        ∙ ready-walk u (suc (count - suc (room s))) (suc number_max) past_room (λ n i k page beats. refl)
+        ∙ ready_walk u (suc (count - suc (room s))) (suc number_max) past_room (λ n i k page beats. refl)
         (λ r b pg bt h q k. twenty_five u (count - suc (room s)) r b pg bt h q k) s (room s) bytes page beats
         (omega (arith, whole, n)) (some false t) (omega (arith, e.number))
-        ∙ sym (records-past u s bytes page beats p t)
+        ∙ sym (records_past u s bytes page beats p t)
 
 -- AND, FROM A TRACE'S START STATE, THE WHOLE-TRACE JUDGE, where 1 to 7 pass
 pub walk_whole : (u : Setup) (trace page beats : List ℕ) → entry u trace page ≡ Taken
     → walk u (start_of (header_of trace)) (header_of trace).count (drop 16 trace) page beats ≡ whole_call u trace page beats
 walk_whole u trace page beats p =
-    let count : length (drop 16 trace) / 16 ≡ (header_of trace).count = omega (arith, rest-long u trace page beats p) in
+    let count : length (drop 16 trace) / 16 ≡ (header_of trace).count = omega (arith, rest_long u trace page beats p) in
     sym (ap (λ (k : ℕ). walk u (start_of (header_of trace)) k (drop 16 trace) page beats) count)
     ∙ walk_records u (start_of (header_of trace)) (drop 16 trace) page beats (enters u trace page beats p)
-    ∙ call-records u trace page beats p
+    ∙ call_records u trace page beats p

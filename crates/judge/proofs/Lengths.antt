@@ -8,10 +8,10 @@ use Rattle.lines.specs.Text.{too_long}
 use Rattle.judge.specs.Output.{trace_max, printed, output}
 
 module _ (input : List ℕ) where
-  pub too-long-alone : trace_max < length input → output input ≡ too_long
+  pub too_long_alone : trace_max < length input → output input ≡ too_long
   unfolding output
-  too-long-alone h = rw (lt-ltb trace_max (length input) h)
+  too_long_alone h = rw (lt-ltb trace_max (length input) h)
 
-  pub judged-up-to-it : length input ≤ trace_max → output input ≡ printed input
+  pub judged_up_to_it : length input ≤ trace_max → output input ≡ printed input
   unfolding output
-  judged-up-to-it h = rw (le-ltb trace_max (length input) h)
+  judged_up_to_it h = rw (le-ltb trace_max (length input) h)

@@ -1,5 +1,5 @@
 -- The command of a record and the bits of its address (01, Commands; 003 table 8). Definitions only.
-use Rattle.std.specs.Prelude.{ℕ, ◌+◌, ◌*◌, ◌/◌, ◌%◌, Bool, ◌&&◌, ◌||◌, List, [], ◌∷◌, ltb, eqb, get_or}
+use Rattle.std.specs.Prelude.{ℕ, ◌+◌, ◌*◌, ◌/◌, ◌%◌, Bool, ◌&&◌, ◌||◌, [], ◌∷◌, ltb, eqb, get_or}
 use Rattle.units.specs.declared.Module.{Module}
 use Rattle.units.specs.Module.{columns}
 use Rattle.layout.specs.declared.Record.{Record}

@@ -1,5 +1,5 @@
 -- The widths of a record's fields (01, Trace layout), as facts. Definitions only.
-use Rattle.std.specs.Prelude.{ℕ, ◌^◌, ◌<◌, ◌≡◌, List, [], ◌∷◌}
+use Rattle.std.specs.Prelude.{◌^◌, ◌<◌, ◌≡◌, List, [], ◌∷◌}
 use Rattle.units.specs.declared.Module.{Module}
 use Rattle.units.specs.Module.{rows, columns}
 use Rattle.layout.specs.declared.Record.{Record}

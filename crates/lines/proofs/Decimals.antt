@@ -14,14 +14,14 @@ module _ (n : ℕ) (l : Laid) where
   no_place zero h = refl
   no_place (suc k) h = absurd (omega arith)
 
-  pub one-digit : (k : ℕ) → (k ≡ 0 → ⊥) → n < 10 → put (glyph n) l ≡ lay (digits k n) l
+  pub one_digit : (k : ℕ) → (k ≡ 0 → ⊥) → n < 10 → put (glyph n) l ≡ lay (digits k n) l
   unfolding digits lay
-  one-digit zero h s = absurd (h refl)
-  one-digit (suc k) h s = rw (lt-ltb n 10 s)
+  one_digit zero h s = absurd (h refl)
+  one_digit (suc k) h s = rw (lt-ltb n 10 s)
 
-  pub more-digits : (k : ℕ) → (k ≡ 0 → ⊥) → 10 ≤ n → put (glyph (n % 10)) (lay (digits (k - 1) (n / 10)) l) ≡ lay (digits k n) l
+  pub more_digits : (k : ℕ) → (k ≡ 0 → ⊥) → 10 ≤ n → put (glyph (n % 10)) (lay (digits (k - 1) (n / 10)) l) ≡ lay (digits k n) l
   unfolding digits
-  more-digits zero h s = absurd (h refl)
-  more-digits (suc k) h s =
+  more_digits zero h s = absurd (h refl)
+  more_digits (suc k) h s =
       let less : suc k - 1 ≡ k = omega arith in
       rw (less, le-ltb n 10 s, lay_append (digits k (n / 10)) (glyph (n % 10) ∷ []) l, lay_one)

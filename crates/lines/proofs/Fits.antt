@@ -29,11 +29,11 @@ laid_holds text buf after bytes h e =
     record { all = n; held = rw (b, n, sets-eq text buf 0 (omega arith)) (take_at text (drop (0 + length text) buf) (length text) refl) }
 
 module _ {text buf : List ℕ} {bytes : ℕ} (h : Holds text buf bytes) where
-  pub held-count : bytes ≡ length (take bytes buf)
-  held-count = h.all ∙ ap length (sym h.held)
+  pub held_count : bytes ≡ length (take bytes buf)
+  held_count = h.all ∙ ap length (sym h.held)
 
   pub held_room : bytes ≤ length buf
-  held_room = omega (arith, held-count, length-take bytes buf)
+  held_room = omega (arith, held_count, length-take bytes buf)
 
 -- ── How long the texts are ──
 

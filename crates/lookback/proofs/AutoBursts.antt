@@ -23,7 +23,7 @@ use Rattle.rules.specs.declared.Verdict.TheVariants.{Taken}
 use Rattle.rules.specs.Numbers.{◌⇒◌}
 use Rattle.rules.specs.Parts.{start}
 use Rattle.rules.specs.Rules.{asks_auto, ask}
-use Rattle.rules.proofs.Rows.{finished-kept}
+use Rattle.rules.proofs.Rows.{finished_kept}
 use Rattle.lookback.specs.Past.{first_free, clock_in}
 use Rattle.lookback.specs.StartUp.{mode_in}
 use Rattle.lookback.specs.Bursts.{reads, writes, burst_length, finished_in}
@@ -83,13 +83,13 @@ guarded : (x y b : Bool) → x ≡ true → (x || y ⇒ b) ≡ true → b ≡ tr
 guarded x y b e h = rw e at h
 
 module _ (u : Setup) (period : Ps) (grade bank row : ℕ) where
-  pub same-finished : (past : List Record) → Took u (start period grade bank row) past → (n : Clock) → first_free past ≤ n.0
+  pub same_finished : (past : List Record) → Took u (start period grade bank row) past → (n : Clock) → first_free past ≤ n.0
       → bursts_finished (write_back uncut past) (held past) n ≡ finished_in n past
   unfolding bursts_finished finished finished_in write_back reads_back
-  same-finished [] k n h = refl
-  same-finished (r ∷ past) k n h =
-      go (writes r) (reads r) refl refl (same-finished past k.1 n (omega arith))
-      (same-finished past k.1 x (omega arith)) kept
+  same_finished [] k n h = refl
+  same_finished (r ∷ past) k n h =
+      go (writes r) (reads r) refl refl (same_finished past k.1 n (omega arith))
+      (same_finished past k.1 x (omega arith)) kept
     where
       x : Clock
       x = clock_in past r
@@ -101,7 +101,7 @@ module _ (u : Setup) (period : Ps) (grade bank row : ℕ) where
           let d = tied u period grade bank row past k.1 in
           let s = state_in u.table period grade bank row past in
           let p : ask u s r ≡ Taken = rw d.state at k.0 in
-          rw (free_clock past) at (finished-kept u s r p)
+          rw (free_clock past) at (finished_kept u s r p)
 
       go : (v y : Bool) → writes r ≡ v → reads r ≡ y
           → bursts_finished (write_back uncut past) (held past) n ≡ finished_in n past

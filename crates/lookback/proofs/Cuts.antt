@@ -41,14 +41,14 @@ first_three true Never d true n = refl
 first_three true Never d false n = refl
 
 module _ (c : ℕ → Event) (r : Record) (past : List Record) where
-  later-later : (b : Burst) → cut_later (cuts_from r past c) b ≡ cut_later c (cut_later (cuts_from r past uncut) b)
-  later-later b =
+  later_later : (b : Burst) → cut_later (cuts_from r past c) b ≡ cut_later c (cut_later (cuts_from r past uncut) b)
+  later_later b =
       ap (λ (e : Event). with_cut e b) (first_three b.live b.cut (c b.bank) (cuts_write b.bank r) (clock_in past r))
 
-  each-later-later : (bs : List Burst)
+  each_later_later : (bs : List Burst)
       → each_later (cuts_from r past c) bs ≡ each_later c (each_later (cuts_from r past uncut) bs)
-  each-later-later [] = refl
-  each-later-later (b ∷ bs) = ap₂ (λ (x : Burst) (y : List Burst). x ∷ y) (later-later b) (each-later-later bs)
+  each_later_later [] = refl
+  each_later_later (b ∷ bs) = ap₂ (λ (x : Burst) (y : List Burst). x ∷ y) (later_later b) (each_later_later bs)
 
 pub write_later : (c : ℕ → Event) (past : List Record) → write_back c past ≡ cut_later c (write_back uncut past)
 unfolding write_back
@@ -56,7 +56,7 @@ write_later c [] = refl
 write_later c (r ∷ past) =
     go (writes r)
     (write_later (cuts_from r past c) past
-    ∙ (later-later c r past (write_back uncut past) ∙ ap (cut_later c) (sym (write_later (cuts_from r past uncut) past))))
+    ∙ (later_later c r past (write_back uncut past) ∙ ap (cut_later c) (sym (write_later (cuts_from r past uncut) past))))
   where
     go : (x : Bool) → write_back (cuts_from r past c) past ≡ cut_later c (write_back (cuts_from r past uncut) past)
         → cond x (registered c r past) (write_back (cuts_from r past c) past)
@@ -70,7 +70,7 @@ reads_later c [] = refl
 reads_later c (r ∷ past) =
     go (writes r) (reads r)
     (reads_later (cuts_from r past c) past
-    ∙ (each-later-later c r past (reads_back uncut past) ∙ ap (each_later c) (sym (reads_later (cuts_from r past uncut) past))))
+    ∙ (each_later_later c r past (reads_back uncut past) ∙ ap (each_later c) (sym (reads_later (cuts_from r past uncut) past))))
   where
     go : (x y : Bool) → reads_back (cuts_from r past c) past ≡ each_later c (reads_back (cuts_from r past uncut) past)
         → cond x [] (cond y (registered c r past ∷ reads_back (cuts_from r past c) past) (reads_back (cuts_from r past c) past))
@@ -111,8 +111,8 @@ module _ (x : ℕ) (c : ℕ → Event) (r : Record) (past : List Record) (h : fi
       inside_cond (first_free past) x (cuts_write i r) (clock_in past r) (c i) (omega arith) (omega arith)
       (inside_from (first_free past) (first_free (r ∷ past)) x (c i) (omega arith) (g i))
 
-  registered-placed : Placed x (registered c r past)
-  registered-placed live = (omega arith, g r.ba)
+  registered_placed : Placed x (registered c r past)
+  registered_placed live = (omega arith, g r.ba)
 
 pub write_placed : (x : ℕ) (c : ℕ → Event) (past : List Record) → first_free past ≤ x
     → ((i : ℕ) → Inside (first_free past) x (c i))
@@ -124,7 +124,7 @@ write_placed x c (r ∷ past) h g =
   where
     go : (f : Bool) → Placed x (write_back (cuts_from r past c) past)
         → Placed x (cond f (registered c r past) (write_back (cuts_from r past c) past))
-    go true rest = registered-placed x c r past h g
+    go true rest = registered_placed x c r past h g
     go false rest = rest
 
 pub reads_placed : (x : ℕ) (c : ℕ → Event) (past : List Record) → first_free past ≤ x
@@ -139,7 +139,7 @@ reads_placed x c (r ∷ past) h g =
         → AllPlaced x
         (cond f [] (cond y (registered c r past ∷ reads_back (cuts_from r past c) past) (reads_back (cuts_from r past c) past)))
     go true y rest = tt
-    go false true rest = (registered-placed x c r past h g, rest)
+    go false true rest = (registered_placed x c r past h g, rest)
     go false false rest = rest
 
 -- ── The state's cuts are the first ones ──
@@ -162,9 +162,9 @@ placed_later x n b h g live = (omega (arith, (g live).0), widen b.cut (g live).1
     widen (On y) k = (k.0, omega (arith, k.1))
 
 module _ (r : Record) (past : List Record) where
-  pub cut-first : (b : Burst) → Placed (first_free past) b
+  pub cut_first : (b : Burst) → Placed (first_free past) b
       → cut_by (command r) r.addr r.ba (clock_in past r) b ≡ cut_later (cuts_from r past uncut) b
-  cut-first b h =
+  cut_first b h =
       ap (λ (e : Event). with_cut e b)
       (cut_same (cuts_write b.bank r) b.live b.start (clock_in past r) b.cut
       (placed_later (first_free past) (clock_in past r).0 b (omega arith) h))
@@ -172,4 +172,4 @@ module _ (r : Record) (past : List Record) where
   pub each_first : (bs : List Burst) → AllPlaced (first_free past) bs
       → cut_each (command r) r.addr r.ba (clock_in past r) bs ≡ each_later (cuts_from r past uncut) bs
   each_first [] h = refl
-  each_first (b ∷ bs) h = ap₂ (λ (x : Burst) (y : List Burst). x ∷ y) (cut-first b h.0) (each_first bs h.1)
+  each_first (b ∷ bs) h = ap₂ (λ (x : Burst) (y : List Burst). x ∷ y) (cut_first b h.0) (each_first bs h.1)

@@ -27,19 +27,19 @@ after u s [] = s
 after u s (r ∷ past) = next u (after u s past) r
 
 module _ (u : Setup) (period : Ps) (grade bank row : ℕ) where
-  pub at-first-free : (past : List Record) → next_clock (after u (start period grade bank row) past).core.last ≡ first_free past
+  pub at_first_free : (past : List Record) → next_clock (after u (start period grade bank row) past).core.last ≡ first_free past
   unfolding after next core_after core_from
-  at-first-free [] = refl
-  at-first-free (r ∷ past) = ap (λ (x : ℕ). suc (x + r.skipped)) (at-first-free past)
+  at_first_free [] = refl
+  at_first_free (r ∷ past) = ap (λ (x : ℕ). suc (x + r.skipped)) (at_first_free past)
 
-  pub same-clock : (past : List Record) (r : Record)
+  pub same_clock : (past : List Record) (r : Record)
       → clock_of (after u (start period grade bank row) past).core r ≡ clock_in past r
-  same-clock past r = ap (λ (x : ℕ). clock (x + r.skipped)) (at-first-free past)
+  same_clock past r = ap (λ (x : ℕ). clock (x + r.skipped)) (at_first_free past)
 
-  pub same-last : (past : List Record) → (after u (start period grade bank row) past).core.last ≡ newest past
+  pub same_last : (past : List Record) → (after u (start period grade bank row) past).core.last ≡ newest past
   unfolding after next core_after core_from
-  same-last [] = refl
-  same-last (r ∷ past) = ap On (same-clock past r)
+  same_last [] = refl
+  same_last (r ∷ past) = ap On (same_clock past r)
 
 -- ── Start-up ──
 
@@ -106,7 +106,7 @@ startup_step r past =
     }
 
 module _ (u : Setup) (period : Ps) (grade bank row : ℕ) where
-  pub same-startup : (past : List Record) → (after u (start period grade bank row) past).core.startup ≡ startup_in past
+  pub same_startup : (past : List Record) → (after u (start period grade bank row) past).core.startup ≡ startup_in past
   unfolding after next core_after core_from
-  same-startup [] = refl
-  same-startup (r ∷ past) = rw (same-clock u period grade bank row past r, same-startup past) (startup_step r past)
+  same_startup [] = refl
+  same_startup (r ∷ past) = rw (same_clock u period grade bank row past r, same_startup past) (startup_step r past)

@@ -17,7 +17,7 @@ use Rattle.bursts.specs.declared.Beat.{Beat}
 use Rattle.bursts.specs.declared.Beat.TheVariants.{Quiet}
 use Rattle.bursts.specs.Burst.{no_burst, before_cut, has_beat, reads_on, to_come, read_beat}
 use Rattle.bursts.specs.Bus.{no_reads, later_run, reads_beat, with_room}
-use Rattle.bursts.proofs.Room.{fourth-gives-way}
+use Rattle.bursts.proofs.Room.{fourth_gives_way}
 use Rattle.lookback.specs.Past.{first_free, clock_in}
 use Rattle.lookback.specs.StartUp.{mode_in}
 use Rattle.lookback.specs.Bursts.{reads, writes, cuts_write}
@@ -111,19 +111,19 @@ gone_lost s x m Never g h = absurd g
 gone_lost s x m (On y) g h = rw (lt-ltb s y.0 g.0, le-leb y.0 m.0 (omega (arith, g.1)))
 
 module _ (b : Burst) (x : ℕ) (g : Gone b.start.0 x b.cut) where
-  no-beat : (length : ℕ) (endless : Bool) (m : Clock) → x ≤ m.0 → has_beat b length endless m ≡ false
+  no_beat : (length : ℕ) (endless : Bool) (m : Clock) → x ≤ m.0 → has_beat b length endless m ≡ false
   unfolding has_beat
-  no-beat length endless m h = rw (gone_lost b.start.0 x m b.cut g h, and-false)
+  no_beat length endless m h = rw (gone_lost b.start.0 x m b.cut g h, and-false)
 
   module _ (k : latency b.word ≤ 3) (n : Clock) (h : x + 3 ≤ n.0) where
     gone-quiet : reads_on b n ≡ false
     gone-quiet =
         let m = clock (n.0 - latency b.word) in
-        rw (no-beat (length_of b.word) (full_page b.word) m (omega (arith, k, h)), and-false)
+        rw (no_beat (length_of b.word) (full_page b.word) m (omega (arith, k, h)), and-false)
 
     -- nor on a later clock
     gone-over : to_come n b ≡ false
-    gone-over = no-beat (length_of b.word) (full_page b.word) _ (omega (arith, k, h))
+    gone-over = no_beat (length_of b.word) (full_page b.word) _ (omega (arith, k, h))
 
 -- ── The latest READ that runs ──
 
@@ -209,12 +209,12 @@ held_beat past masks n w h =
 room_three : (bs : List Burst) (n : Clock) (x : ℕ) → Ordered x bs → x ≤ n.0
     → with_room n (take 4 (bs ++ no_reads)) ≡ take 3 (bs ++ no_reads)
 unfolding has_beat
-room_three [] n x o h = fourth-gives-way n no_reads refl refl
-room_three (a ∷ []) n x o h = fourth-gives-way n (a ∷ no_burst ∷ no_burst ∷ no_burst ∷ []) refl refl
-room_three (a ∷ b ∷ []) n x o h = fourth-gives-way n (a ∷ b ∷ no_burst ∷ no_burst ∷ []) refl refl
-room_three (a ∷ b ∷ c ∷ []) n x o h = fourth-gives-way n (a ∷ b ∷ c ∷ no_burst ∷ []) refl refl
+room_three [] n x o h = fourth_gives_way n no_reads refl refl
+room_three (a ∷ []) n x o h = fourth_gives_way n (a ∷ no_burst ∷ no_burst ∷ no_burst ∷ []) refl refl
+room_three (a ∷ b ∷ []) n x o h = fourth_gives_way n (a ∷ b ∷ no_burst ∷ no_burst ∷ []) refl refl
+room_three (a ∷ b ∷ c ∷ []) n x o h = fourth_gives_way n (a ∷ b ∷ c ∷ no_burst ∷ []) refl refl
 room_three (a ∷ b ∷ c ∷ d ∷ bs) n x o h =
-    fourth-gives-way n (a ∷ b ∷ c ∷ d ∷ []) refl
+    fourth_gives_way n (a ∷ b ∷ c ∷ d ∷ []) refl
     (gone-over d c.start.0 o.1.1.0.1.0.0 o.1.1.0.1.0.1 n (omega (arith, o.0.0, o.1.0.0, o.1.1.0.0)))
 
 -- FOR A NEW READ THE OLDEST OF THE FOUR MAKES ROOM

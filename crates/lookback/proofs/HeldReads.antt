@@ -19,7 +19,7 @@ use Rattle.lookback.specs.StartUp.{mode_in}
 use Rattle.lookback.specs.Banks.{row_in}
 use Rattle.lookback.specs.Bursts.{reads, writes}
 use Rattle.lookback.proofs.Held.{uncut, cuts_from, registered, write_back, reads_back, held}
-use Rattle.lookback.proofs.Cuts.{write_later, reads_later, write_placed, reads_placed, cut-first, each_first}
+use Rattle.lookback.proofs.Cuts.{write_later, reads_later, write_placed, reads_placed, cut_first, each_first}
 use Rattle.lookback.proofs.FourReads.{Ordered, Words, back_ordered, held_room}
 
 -- ── The WRITE ──
@@ -33,7 +33,7 @@ write_step r past = go (writes r) rest
     rest : cut_by (command r) r.addr r.ba (clock_in past r) (write_back uncut past)
         ≡ write_back (cuts_from r past uncut) past
     rest =
-        cut-first r past (write_back uncut past) (write_placed (first_free past) uncut past (omega arith) (λ i. tt))
+        cut_first r past (write_back uncut past) (write_placed (first_free past) uncut past (omega arith) (λ i. tt))
         ∙ sym (write_later (cuts_from r past uncut) past)
 
     go : (x : Bool)
@@ -47,14 +47,14 @@ write_step r past = go (writes r) rest
 -- ── The READs ──
 
 module _ (k : Command) (addr ba : ℕ) (n : Clock) where
-  cut-take : (m : ℕ) (l : List Burst) → cut_each k addr ba n (take m l) ≡ take m (cut_each k addr ba n l)
-  cut-take zero l = refl
-  cut-take (suc m) [] = refl
-  cut-take (suc m) (b ∷ l) = ap (λ (x : List Burst). cut_by k addr ba n b ∷ x) (cut-take m l)
+  cut_take : (m : ℕ) (l : List Burst) → cut_each k addr ba n (take m l) ≡ take m (cut_each k addr ba n l)
+  cut_take zero l = refl
+  cut_take (suc m) [] = refl
+  cut_take (suc m) (b ∷ l) = ap (λ (x : List Burst). cut_by k addr ba n b ∷ x) (cut_take m l)
 
-  cut-join : (l m : List Burst) → cut_each k addr ba n (l ++ m) ≡ cut_each k addr ba n l ++ cut_each k addr ba n m
-  cut-join [] m = refl
-  cut-join (b ∷ l) m = ap (λ (x : List Burst). cut_by k addr ba n b ∷ x) (cut-join l m)
+  cut_join : (l m : List Burst) → cut_each k addr ba n (l ++ m) ≡ cut_each k addr ba n l ++ cut_each k addr ba n m
+  cut_join [] m = refl
+  cut_join (b ∷ l) m = ap (λ (x : List Burst). cut_by k addr ba n b ∷ x) (cut_join l m)
 
 -- an empty place is not cut
 cut_none : (k : Command) (addr ba : ℕ) (n : Clock) → cut_each k addr ba n no_reads ≡ no_reads
@@ -96,18 +96,18 @@ module _ (r : Record) (past : List Record) where
       → cut_each (command r) r.addr r.ba (clock_in past r) (take m (reads_back uncut past ++ no_reads))
       ≡ take m (reads_back (cuts_from r past uncut) past ++ no_reads)
   places m =
-      cut-take (command r) r.addr r.ba (clock_in past r) m (reads_back uncut past ++ no_reads)
+      cut_take (command r) r.addr r.ba (clock_in past r) m (reads_back uncut past ++ no_reads)
       ∙ ap (take m)
-      (cut-join (command r) r.addr r.ba (clock_in past r) (reads_back uncut past) no_reads
+      (cut_join (command r) r.addr r.ba (clock_in past r) (reads_back uncut past) no_reads
       ∙ ap₂ (λ (l d : List Burst). l ++ d)
       (each_first r past (reads_back uncut past) (reads_placed (first_free past) uncut past (omega arith) (λ i. tt))
       ∙ sym (reads_later (cuts_from r past uncut) past))
       (cut_none (command r) r.addr r.ba (clock_in past r)))
 
-  pub reads-step : Words past
+  pub reads_step : Words past
       → reads_after (command r) r (clock_in past r) (mode_in past) (row_in r.ba past) (held past) ≡ held (r ∷ past)
   unfolding reads_back reads_from
-  reads-step w = go (writes r) (reads r) (held_room past (clock_in past r) w (omega arith))
+  reads_step w = go (writes r) (reads r) (held_room past (clock_in past r) w (omega arith))
     where
       go : (x y : Bool) → with_room (clock_in past r) (held past) ≡ take 3 (reads_back uncut past ++ no_reads)
           → cond x (written_over (clock_in past r) (held past))

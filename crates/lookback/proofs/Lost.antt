@@ -61,8 +61,8 @@ first_of_two true y f (On z) s h = go (leb y f) refl
 module _ (g : ℕ → Record → Bool) (c : ℕ → Event) (all : List Record) (r : Record) (past : List Record)
     (s : Summed g c all (r ∷ past)) where
   -- one record further back, where g tells of it what cuts
-  pub one-back : ((i : ℕ) → g i r ≡ cuts_write i r) → Summed g (cuts_from r past c) all past
-  one-back same =
+  pub one_back : ((i : ℕ) → g i r ≡ cuts_write i r) → Summed g (cuts_from r past c) all past
+  one_back same =
       record {
         from = λ i.
             from_cond (first_free past) (cuts_write i r) (clock_in past r) (c i) (omega arith)
@@ -74,13 +74,13 @@ module _ (g : ℕ → Record → Bool) (c : ℕ → Event) (all : List Record) (
       }
 
   -- of the burst that r registers
-  pub own-lost : (i f : ℕ) → stands (g i) (clock_in past r).0 f all ≡ cut_by_then (c i) f
-  own-lost i f =
+  pub own_lost : (i f : ℕ) → stands (g i) (clock_in past r).0 f all ≡ cut_by_then (c i) f
+  own_lost i f =
       s.lost i (clock_in past r).0 f (omega arith)
       ∙ rw (none_after (g i) (clock_in past r).0 f (r ∷ past) (omega arith), or-false)
 
-  pub own-kept : (i : ℕ) (f : Clock) → before_cut (clock_in past r) f (c i) ≡ not (stands (g i) (clock_in past r).0 f.0 all)
-  own-kept i f = go (c i) (s.from i) ∙ ap not (sym (own-lost i f.0))
+  pub own_kept : (i : ℕ) (f : Clock) → before_cut (clock_in past r) f (c i) ≡ not (stands (g i) (clock_in past r).0 f.0 all)
+  own_kept i f = go (c i) (s.from i) ∙ ap not (sym (own_lost i f.0))
     where
       go : (e : Event) → From (first_free (r ∷ past)) e → before_cut (clock_in past r) f e ≡ not (cut_by_then e f.0)
       go Never h = refl

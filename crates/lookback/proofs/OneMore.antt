@@ -41,33 +41,33 @@ use Rattle.lookback.specs.Banks.{activates, auto_closes, precharges, row_in, end
 use Rattle.lookback.specs.Beats.{beat_in, stored_in}
 use Rattle.lookback.specs.Look.{bank_in, banks_in}
 use Rattle.lookback.proofs.Fold.{startup_step, last_step}
-use Rattle.lookback.proofs.Status.{status-step}
+use Rattle.lookback.proofs.Status.{status_step}
 use Rattle.lookback.proofs.Held.{uncut, write_back, held}
-use Rattle.lookback.proofs.HeldReads.{write_step, reads-step}
+use Rattle.lookback.proofs.HeldReads.{write_step, reads_step}
 use Rattle.lookback.proofs.FourReads.{Words, held_beat}
 use Rattle.lookback.proofs.HeldMasks.{masks_held, same_masks}
-use Rattle.lookback.proofs.OwnBeats.{write-found, reads-found}
+use Rattle.lookback.proofs.OwnBeats.{write_found, reads_found}
 use Rattle.lookback.proofs.State.{core_in, state_in, free_clock}
-use Rattle.lookback.proofs.OpenBank.{access_open, auto_open, row_at, write-row, reads-row}
+use Rattle.lookback.proofs.OpenBank.{access_open, auto_open, row_at, write_row, reads_row}
 
 -- ── All but the banks; `row0` is the open row that the state finds ──
 
 module _ (t : SpeedTable) (period : Ps) (grade bank row : ℕ) (r : Record) (past : List Record) (row0 : ℕ)
     (same_row : access (command r) ≡ true → row0 ≡ row_in r.ba past) (w : Words (r ∷ past)) where
-  write-one : write_after (command r) r (clock_in past r) (mode_in past) row0 (write_back uncut past)
+  write_one : write_after (command r) r (clock_in past r) (mode_in past) row0 (write_back uncut past)
       ≡ write_back uncut (r ∷ past)
-  write-one =
-      write-row (command r) r (clock_in past r) (mode_in past) row0 (row_in r.ba past) same_row (write_back uncut past)
+  write_one =
+      write_row (command r) r (clock_in past r) (mode_in past) row0 (row_in r.ba past) same_row (write_back uncut past)
       ∙ write_step r past
 
-  reads-one : reads_after (command r) r (clock_in past r) (mode_in past) row0 (held past) ≡ held (r ∷ past)
-  reads-one =
-      reads-row (command r) r (clock_in past r) (mode_in past) row0 (row_in r.ba past) same_row (held past)
-      ∙ reads-step r past w.1
+  reads_one : reads_after (command r) r (clock_in past r) (mode_in past) row0 (held past) ≡ held (r ∷ past)
+  reads_one =
+      reads_row (command r) r (clock_in past r) (mode_in past) row0 (row_in r.ba past) same_row (held past)
+      ∙ reads_step r past w.1
 
-  core-one : core_after (core_in period grade bank row past) r row0 ≡ core_in period grade bank row (r ∷ past)
+  core_one : core_after (core_in period grade bank row past) r row0 ≡ core_in period grade bank row (r ∷ past)
   unfolding core_after core_from bus_after masks_held
-  core-one =
+  core_one =
       rw (free_clock past)
       (λ i. record {
         period = period;
@@ -77,17 +77,17 @@ module _ (t : SpeedTable) (period : Ps) (grade bank row : ℕ) (r : Record) (pas
         number = count past + 1;
         last = On (clock_in past r);
         startup = startup_step r past i;
-        bus = record { write = write-one i; reads = reads-one i; masks = masks_held (r ∷ past) };
+        bus = record { write = write_one i; reads = reads_one i; masks = masks_held (r ∷ past) };
       })
 
-  pub beat-one : beat (core_in period grade bank row past) r row0 ≡ beat_in past r
+  pub beat_one : beat (core_in period grade bank row past) r row0 ≡ beat_in past r
   unfolding beat beat_on beat_in
-  beat-one =
+  beat_one =
       let n = clock_in past r in
       let m = masks_at past (two_before n) in
-      rw (free_clock past, write-one, reads-one, same_masks past (two_before n) (omega arith))
-      (ap₂ or_else (write-found (r ∷ past) r.masks n (omega arith))
-      (held_beat (r ∷ past) m n w (omega arith) ∙ reads-found (r ∷ past) m n (omega arith)))
+      rw (free_clock past, write_one, reads_one, same_masks past (two_before n) (omega arith))
+      (ap₂ or_else (write_found (r ∷ past) r.masks n (omega arith))
+      (held_beat (r ∷ past) m n w (omega arith) ∙ reads_found (r ∷ past) m n (omega arith)))
 
 -- ── A bank ──
 
@@ -102,24 +102,24 @@ bank_split x false false false n addr p q d = refl
 
 module _ (t : SpeedTable) (period : Ps) (r : Record) (past : List Record) (again : Bool) where
   -- bank i after r's command, and after the beat on its clock
-  abbrev commanded-bank : ℕ → Bank
-  commanded-bank i =
+  abbrev commanded_bank : ℕ → Bank
+  commanded_bank i =
       bank_after (command r) t period (end_in t period r past) again r (clock_in past r) (at period (clock_in past r)) i
       (bank_in t period i past)
 
-  abbrev left-bank : ℕ → Bank
-  left-bank i = marked (stores_in (beat_in past r) i) (clock_in past r) (commanded-bank i)
+  abbrev left_bank : ℕ → Bank
+  left_bank i = marked (stores_in (beat_in past r) i) (clock_in past r) (commanded_bank i)
 
-  bank-one : (i : ℕ) → (auto_closes i r ≡ true → is_open (status_in t period i past) ≡ true)
+  bank_one : (i : ℕ) → (auto_closes i r ≡ true → is_open (status_in t period i past) ≡ true)
       → (is_closed (status_in t period i past) ≡ true → again ≡ true)
-      → left-bank i ≡ bank_in t period i (r ∷ past)
+      → left_bank i ≡ bank_in t period i (r ∷ past)
   unfolding bank_after stored_in
-  bank-one i h g =
+  bank_one i h g =
       bank_split (stores_in (beat_in past r) i) (activates i r) (auto_closes i r) (precharges i r) (clock_in past r) r.addr
       (auto_closed t period (end_in t period r past) (status_in t period i past))
       (precharged again (at period (clock_in past r)) (status_in t period i past))
       (bank_in t period i past)
-      ∙ (λ j. bank_of (status-step t period i r past again h g j) (last_step (activates i) r past j) (stored_in i (r ∷ past)))
+      ∙ (λ j. bank_of (status_step t period i r past again h g j) (last_step (activates i) r past j) (stored_in i (r ∷ past)))
 
 -- ── The state ──
 
@@ -130,19 +130,19 @@ module _ (u : Setup) (period : Ps) (grade bank row : ℕ) (r : Record) (past : L
   pub same_row : access (command r) ≡ true → own_row (state_in u.table period grade bank row past) r ≡ row_in r.ba past
   same_row a = row_at u.table period past r.ba (access_open (command r) r.ba (banks_in u.table period past) f a)
 
-  bank-more : (i : ℕ) → left-bank u.table period r past (begun (startup_in past)) i ≡ bank_in u.table period i (r ∷ past)
-  bank-more i = bank-one u.table period r past (begun (startup_in past)) i (auto_open u.table period r past f i) (g i)
+  bank_more : (i : ℕ) → left_bank u.table period r past (begun (startup_in past)) i ≡ bank_in u.table period i (r ∷ past)
+  bank_more i = bank_one u.table period r past (begun (startup_in past)) i (auto_open u.table period r past f i) (g i)
 
-  pub state-more : next u (state_in u.table period grade bank row past) r
+  pub state_more : next u (state_in u.table period grade bank row past) r
       ≡ state_in u.table period grade bank row (r ∷ past)
   unfolding next banks_after mark_banks commanded
-  state-more =
+  state_more =
       rw (
-        beat-one u.table period grade bank row r past (own_row (state_in u.table period grade bank row past) r) same_row w,
-        core-one u.table period grade bank row r past (own_row (state_in u.table period grade bank row past) r) same_row w,
+        beat_one u.table period grade bank row r past (own_row (state_in u.table period grade bank row past) r) same_row w,
+        core_one u.table period grade bank row r past (own_row (state_in u.table period grade bank row past) r) same_row w,
         free_clock past,
       )
       (λ j. record {
         core = core_in period grade bank row (r ∷ past);
-        banks = bank-more 0 j ∷ bank-more 1 j ∷ bank-more 2 j ∷ bank-more 3 j ∷ [];
+        banks = bank_more 0 j ∷ bank_more 1 j ∷ bank_more 2 j ∷ bank_more 3 j ∷ [];
       })

@@ -86,8 +86,8 @@ auto_open t period r past f i h =
 -- ── The row matters to a READ or WRITE only ──
 
 module _ (k : Command) (r : Record) (n : Clock) (w a b : ℕ) (e : access k ≡ true → a ≡ b) where
-  pub write-row : (x : Burst) → write_after k r n w a x ≡ write_after k r n w b x
-  write-row x = go k e
+  pub write_row : (x : Burst) → write_after k r n w a x ≡ write_after k r n w b x
+  write_row x = go k e
     where
       go : (k : Command) → (access k ≡ true → a ≡ b) → write_after k r n w a x ≡ write_after k r n w b x
       go Inhibit e = refl
@@ -100,9 +100,9 @@ module _ (k : Command) (r : Record) (n : Clock) (w a b : ℕ) (e : access k ≡ 
       go Refresh e = refl
       go LoadMode e = refl
 
-  pub reads-row : (l : List Burst) → reads_after k r n w a l ≡ reads_after k r n w b l
+  pub reads_row : (l : List Burst) → reads_after k r n w a l ≡ reads_after k r n w b l
   unfolding reads_from
-  reads-row l = go k e
+  reads_row l = go k e
     where
       go : (k : Command) → (access k ≡ true → a ≡ b) → reads_after k r n w a l ≡ reads_after k r n w b l
       go Inhibit e = refl

@@ -30,7 +30,7 @@ use Rattle.lookback.specs.Bursts.{
   read_on,
 }
 use Rattle.lookback.proofs.Held.{uncut, cuts_from, registered, write_back, reads_back}
-use Rattle.lookback.proofs.Lost.{Summed, none_after, all_told, one-back, own-kept}
+use Rattle.lookback.proofs.Lost.{Summed, none_after, all_told, one_back, own_kept}
 use Rattle.lookback.proofs.FourReads.{latest_beat}
 
 -- ── Numbers ──
@@ -50,14 +50,14 @@ back_again w n h = omega (arith, h)
 
 module _ (all : List Record) (masks : ℕ) (n : Clock) where
   -- a WRITE before one that stands by clock n has lost its beat
-  older-writes : (v : ℕ) (past : List Record) → v ≤ n.0 → first_free past ≤ v
+  older_writes : (v : ℕ) (past : List Record) → v ≤ n.0 → first_free past ≤ v
       → ((i x : ℕ) → x < v → stands (cuts_write i) x n.0 all ≡ true) → write_on all masks n past ≡ Quiet
   unfolding write_on
-  older-writes v [] h k cut = refl
-  older-writes v (r ∷ past) h k cut =
+  older_writes v [] h k cut = refl
+  older_writes v (r ∷ past) h k cut =
       let w = (clock_in past r).0 in
       rw (back_again w n.0 (omega arith), cut r.ba w (omega arith), and-false, and-false, and-false)
-      (older-writes v past h (omega arith) cut)
+      (older_writes v past h (omega arith) cut)
 
   module _ (c : ℕ → Event) (r : Record) (past : List Record) (s : Summed cuts_write c all (r ∷ past))
       (h : (clock_in past r).0 ≤ n.0) where
@@ -69,7 +69,7 @@ module _ (all : List Record) (masks : ℕ) (n : Clock) where
         rw (
           le-leb w n.0 h,
           back_again w n.0 h,
-          own-kept cuts_write c all r past s r.ba n,
+          own_kept cuts_write c all r past s r.ba n,
           own_beat_number w n.0 (write_length (mode_in past)) h,
         )
         (and_comm (not (stands (cuts_write r.ba) w n.0 all))
@@ -80,12 +80,12 @@ module _ (all : List Record) (masks : ℕ) (n : Clock) where
         s.lost i x n.0 (omega arith)
         ∙ rw (lt-ltb x (clock_in past r).0 k, le-leb (clock_in past r).0 n.0 h, e, or-true, or-true)
 
-  pub write-told : (c : ℕ → Event) (past : List Record) → Summed cuts_write c all past → first_free past ≤ n.0 + 1
+  pub write_told : (c : ℕ → Event) (past : List Record) → Summed cuts_write c all past → first_free past ≤ n.0 + 1
       → write_beat (write_back c past) masks n ≡ write_on all masks n past
   unfolding write_beat write_back write_on has_beat
-  write-told c [] s h = refl
-  write-told c (r ∷ past) s h =
-      go (writes r) refl (write-told (cuts_from r past c) past (one-back cuts_write c all r past s (λ i. refl)) (omega arith))
+  write_told c [] s h = refl
+  write_told c (r ∷ past) s h =
+      go (writes r) refl (write_told (cuts_from r past c) past (one_back cuts_write c all r past s (λ i. refl)) (omega arith))
     where
       own : (x y : Bool) → x ≡ y → write_on all masks n past ≡ Quiet
           → cond x (Stores (cells_in r past (n.0 - (clock_in past r).0) masks)) Quiet
@@ -99,7 +99,7 @@ module _ (all : List Record) (masks : ℕ) (n : Clock) where
           (Stores (cells_in r past (n.0 - (clock_in past r).0) masks)) (write_on all masks n past)
       go true e rest =
           own _ _ (write_same c r past s (omega arith))
-          (older-writes (clock_in past r).0 past (omega arith) (omega arith) (newer-cuts c r past s (omega arith) e))
+          (older_writes (clock_in past r).0 past (omega arith) (omega arith) (newer-cuts c r past s (omega arith) e))
       go false e rest = rest
 
 -- ── The READs ──
@@ -143,11 +143,11 @@ cuts_both r e i = rw (e, or-false)
 
 module _ (all : List Record) (masks : ℕ) (n : Clock) where
   -- a READ before a WRITE that stands by clock n has lost its beat
-  older-reads : (v : ℕ) (past : List Record) → v ≤ n.0 → first_free past ≤ v
+  older_reads : (v : ℕ) (past : List Record) → v ≤ n.0 → first_free past ≤ v
       → ((x : ℕ) → x < v → stands writes x n.0 all ≡ true) → read_on all masks n past ≡ Quiet
   unfolding read_on
-  older-reads v [] h k cut = refl
-  older-reads v (r ∷ past) h k cut = go (leb (read_first r past) n.0) refl (older-reads v past h (omega arith) cut)
+  older_reads v [] h k cut = refl
+  older_reads v (r ∷ past) h k cut = go (leb (read_first r past) n.0) refl (older_reads v past h (omega arith) cut)
     where
       go : (x : Bool) → leb (read_first r past) n.0 ≡ x → read_on all masks n past ≡ Quiet
           → cond (reads r && (leb (read_first r past) n.0 && read_has all r past (n.0 - read_first r past)))
@@ -177,7 +177,7 @@ module _ (all : List Record) (masks : ℕ) (n : Clock) where
     unfolding has_beat
     read_same =
         rw (
-          own-kept cuts_read c all r past s r.ba (clock (n.0 - latency (mode_in past))),
+          own_kept cuts_read c all r past s r.ba (clock (n.0 - latency (mode_in past))),
           unwritten (read_first r past + (n.0 - read_first r past)),
           and-true,
         )
@@ -191,7 +191,7 @@ module _ (all : List Record) (masks : ℕ) (n : Clock) where
   read_told c [] s free h = refl
   read_told c (r ∷ past) s free h =
       go (writes r) (reads r) refl refl
-      (λ e. read_told (cuts_from r past c) past (one-back cuts_read c all r past s (cuts_both r e)) (further e) (omega arith))
+      (λ e. read_told (cuts_from r past c) past (one_back cuts_read c all r past s (cuts_both r e)) (further e) (omega arith))
     where
       further : writes r ≡ false → (x f : ℕ) → x < first_free past → stands writes x f all ≡ stands writes x f past
       further e x f k = free x f (omega (arith, k)) ∙ rw e
@@ -219,15 +219,15 @@ module _ (all : List Record) (masks : ℕ) (n : Clock) where
           (read_on all masks n past)
       go true y e f rest =
           let z : y ≡ false = sym f ∙ no_read r e in
-          rw z (sym (older-reads (clock_in past r).0 past (omega arith) (omega arith) (by-write e)))
+          rw z (sym (older_reads (clock_in past r).0 past (omega arith) (omega arith) (by-write e)))
       go false true e f rest = own _ _ _ _ (read_same c r past s free) (rest e)
       go false false e f rest = rest e
 
 -- ── All records told ──
 
 module _ (past : List Record) (masks : ℕ) (n : Clock) (h : first_free past ≤ n.0 + 1) where
-  pub write-found : write_beat (write_back uncut past) masks n ≡ write_on past masks n past
-  write-found = write-told past masks n uncut past (all_told cuts_write past) h
+  pub write_found : write_beat (write_back uncut past) masks n ≡ write_on past masks n past
+  write_found = write_told past masks n uncut past (all_told cuts_write past) h
 
-  pub reads-found : latest_beat (reads_back uncut past) masks n ≡ read_on past masks n past
-  reads-found = read_told past masks n uncut past (all_told cuts_read past) (λ x f k. refl) h
+  pub reads_found : latest_beat (reads_back uncut past) masks n ≡ read_on past masks n past
+  reads_found = read_told past masks n uncut past (all_told cuts_read past) (λ x f k. refl) h

@@ -26,11 +26,11 @@ use Rattle.lookback.proofs.Fold.{after}
 use Rattle.lookback.proofs.Held.{held}
 use Rattle.lookback.proofs.HeldMasks.{masks_held, same_masks}
 use Rattle.lookback.proofs.FourReads.{Words, held_beat}
-use Rattle.lookback.proofs.OwnBeats.{reads-found}
+use Rattle.lookback.proofs.OwnBeats.{reads_found}
 use Rattle.lookback.proofs.State.{state_in, free_clock}
-use Rattle.lookback.proofs.OneMore.{beat-one, same_row}
+use Rattle.lookback.proofs.OneMore.{beat_one, same_row}
 use Rattle.lookback.proofs.Tied.{Took, Tied, after_more, tied}
-use Rattle.lookback.proofs.AutoBursts.{same-finished}
+use Rattle.lookback.proofs.AutoBursts.{same_finished}
 
 -- ── Number 20 ──
 
@@ -39,7 +39,7 @@ same_driven : (past : List Record) (n : Clock) → Words past → first_free pas
 unfolding driven drives_in
 same_driven past n w h =
     let m = masks_at past (two_before n) in
-    rw (same_masks past (two_before n) (omega arith)) (ap drives_lane (held_beat past m n w h ∙ reads-found past m n h))
+    rw (same_masks past (two_before n) (omega arith)) (ap drives_lane (held_beat past m n w h ∙ reads_found past m n h))
 
 same_clear : (past : List Record) (n : Clock) → Words past → first_free past ≤ n.0
     → bus_clear (newest past) (masks_held past) (held past) n ≡ clear_in past n
@@ -56,7 +56,7 @@ module _ (u : Setup) (period : Ps) (grade bank row : ℕ) where
   same_answer past r k =
       rw (
         free_clock past,
-        same-finished u period grade bank row past k (clock_in past r) (omega arith),
+        same_finished u period grade bank row past k (clock_in past r) (omega arith),
         same_clear past (clock_in past r) (tied u period grade bank row past k).words (omega arith),
       )
 
@@ -67,24 +67,24 @@ module _ (u : Setup) (period : Ps) (grade bank row : ℕ) where
       let s = state_in u.table period grade bank row past in
       let w : Words (r ∷ past) = (d.word, d.words) in
       rw (
-        beat-one u.table period grade bank row r past (own_row s r)
+        beat_one u.table period grade bank row r past (own_row s r)
             (same_row u period grade bank row r past (banks_kept u s r p) d.begun w) w,
         free_clock past,
       )
 
   -- ── All records ──
 
-  look-taken : (past : List Record) (r : Record) (rs : List Record) → look u (module_of grade) period past r ≡ Taken
+  look_taken : (past : List Record) (r : Record) (rs : List Record) → look u (module_of grade) period past r ≡ Taken
       → look_run u (module_of grade) period past (r ∷ rs)
       ≡ with_line (line_in past r) (look_run u (module_of grade) period (r ∷ past) rs)
   unfolding look_run
-  look-taken past r rs p = rw (p, look_run)
+  look_taken past r rs p = rw (p, look_run)
 
-  look-refused : (past : List Record) (r : Record) (rs : List Record) (n i : ℕ)
+  look_refused : (past : List Record) (r : Record) (rs : List Record) (n i : ℕ)
       → look u (module_of grade) period past r ≡ Refused n i
       → look_run u (module_of grade) period past (r ∷ rs) ≡ record { verdict = Refused n i; reported = count past; lines = [] }
   unfolding look_run
-  look-refused past r rs n i p = rw (p, look_run)
+  look_refused past r rs n i p = rw (p, look_run)
 
   run_none : (s : State) → run u s [] ≡ record { verdict = Taken; reported = s.core.number; lines = [] }
   unfolding run
@@ -95,14 +95,14 @@ module _ (u : Setup) (period : Ps) (grade bank row : ℕ) where
   unfolding look_run
   look_none past = refl
 
-  same-run : (past rs : List Record) → Took u (start period grade bank row) past
+  same_run : (past rs : List Record) → Took u (start period grade bank row) past
       → look_run u (module_of grade) period past rs ≡ run u (after u (start period grade bank row) past) rs
-  same-run past [] k =
+  same_run past [] k =
       look_none past
       ∙ (ap (λ (s : State). record { verdict = Taken; reported = s.core.number; lines = [] })
       (sym (tied u period grade bank row past k).state)
       ∙ sym (run_none (after u (start period grade bank row) past)))
-  same-run past (r ∷ rs) k = go (ask u (after u (start period grade bank row) past) r) refl (λ p. same-run (r ∷ past) rs (p, k))
+  same_run past (r ∷ rs) k = go (ask u (after u (start period grade bank row) past) r) refl (λ p. same_run (r ∷ past) rs (p, k))
     where
       s : State
       s = after u (start period grade bank row) past
@@ -118,7 +118,7 @@ module _ (u : Setup) (period : Ps) (grade bank row : ℕ) where
           → look_run u (module_of grade) period (r ∷ past) rs ≡ run u (after u (start period grade bank row) (r ∷ past)) rs)
           → look_run u (module_of grade) period past (r ∷ rs) ≡ run u (after u (start period grade bank row) past) (r ∷ rs)
       go Taken p h =
-          look-taken past r rs (sym answer ∙ p)
+          look_taken past r rs (sym answer ∙ p)
           ∙ (ap₂ with_line
           (sym
           (ap (λ (x : State). line x r) same
@@ -126,7 +126,7 @@ module _ (u : Setup) (period : Ps) (grade bank row : ℕ) where
           (h p ∙ ap (λ (x : State). run u x rs) (after_more u (start period grade bank row) r past))
           ∙ sym (run_taken u s r rs p))
       go (Refused n i) p h =
-          look-refused past r rs n i (sym answer ∙ p)
+          look_refused past r rs n i (sym answer ∙ p)
           ∙ (ap (λ (x : State). record { verdict = Refused n i; reported = x.core.number; lines = [] }) (sym same)
           ∙ sym (run_refused u s r rs n i p))
 
@@ -135,11 +135,11 @@ module _ (u : Setup) (period : Ps) (grade bank row : ℕ) where
   after_none = refl
 
   -- verdict, reported record and every line
-  pub slow-is-judge : (rs : List Record) → look_run u (module_of grade) period [] rs ≡ run u (start period grade bank row) rs
-  slow-is-judge rs = same-run [] rs tt ∙ ap (λ (s : State). run u s rs) after_none
+  pub slow_is_judge : (rs : List Record) → look_run u (module_of grade) period [] rs ≡ run u (start period grade bank row) rs
+  slow_is_judge rs = same_run [] rs tt ∙ ap (λ (s : State). run u s rs) after_none
 
   -- and the page
-  pub slow-page : (rs : List Record) (page : List ℕ)
+  pub slow_page : (rs : List Record) (page : List ℕ)
       → page_after (module_of grade) bank row rs (look_run u (module_of grade) period [] rs).lines page
       ≡ page_after (module_of grade) bank row rs (run u (start period grade bank row) rs).lines page
-  slow-page rs page = ap (λ (a : Run). page_after (module_of grade) bank row rs a.lines page) (slow-is-judge rs)
+  slow_page rs page = ap (λ (a : Run). page_after (module_of grade) bank row rs a.lines page) (slow_is_judge rs)

@@ -16,16 +16,16 @@ use Rattle.lookback.specs.Banks.{activates, auto_closes, precharges, or_these, b
 
 module _ (t : SpeedTable) (period : Ps) (i : ℕ) (r : Record) (past : List Record) (again : Bool) where
   -- the status after r, as the state has it
-  abbrev pub status-next : Status → Status
-  status-next x =
+  abbrev pub status_next : Status → Status
+  status_next x =
       cond (activates i r) (Open r.addr (clock_in past r))
       (cond (auto_closes i r) (auto_closed t period (end_in t period r past) x)
       (cond (precharges i r) (precharged again (at period (clock_in past r)) x) x))
 
-  pub status-step : (auto_closes i r ≡ true → is_open (status_in t period i past) ≡ true)
+  pub status_step : (auto_closes i r ≡ true → is_open (status_in t period i past) ≡ true)
       → (is_closed (status_in t period i past) ≡ true → again ≡ true)
-      → status-next (status_in t period i past) ≡ status_in t period i (r ∷ past)
-  status-step =
+      → status_next (status_in t period i past) ≡ status_in t period i (r ∷ past)
+  status_step =
       go (activates i r) (auto_closes i r) (precharges i r) (back_to_close i past) (back_to (activates i) past) refl refl
     where
       go : (a b c : Bool) (cl act : List Record) → auto_closes i r ≡ b → back_to (activates i) past ≡ act

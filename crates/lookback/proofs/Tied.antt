@@ -31,7 +31,7 @@ use Rattle.rules.specs.StartUp.{begun, allowed}
 use Rattle.rules.specs.Banks.{is_closed}
 use Rattle.rules.specs.Rules.{ask}
 use Rattle.rules.specs.After.{next}
-use Rattle.rules.proofs.Rows.{allowed-kept, banks_kept, mode-kept}
+use Rattle.rules.proofs.Rows.{allowed_kept, banks_kept, mode_kept}
 use Rattle.lookback.specs.StartUp.{closes_all, mode_in, startup_in}
 use Rattle.lookback.specs.Banks.{or_these, back_to_close, status_in}
 use Rattle.lookback.specs.Beats.{stored_in}
@@ -41,7 +41,7 @@ use Rattle.lookback.proofs.HeldMasks.{masks_held}
 use Rattle.lookback.proofs.FourReads.{Words}
 use Rattle.lookback.proofs.State.{state_in}
 use Rattle.lookback.proofs.Latency.{word_more}
-use Rattle.lookback.proofs.OneMore.{state-more}
+use Rattle.lookback.proofs.OneMore.{state_more}
 
 -- ── Nothing is closed before the first PRECHARGE ALL ──
 
@@ -103,21 +103,21 @@ module _ (u : Setup) (period : Ps) (grade bank row : ℕ) where
   unfolding after write_back reads_back stored_in masks_held
   nothing_yet = record { state = refl; begun = λ i h. absurd (true≢false (sym h)); word = omega arith; words = tt }
 
-  one-more-taken : (r : Record) (past : List Record) → ask u (after u (start period grade bank row) past) r ≡ Taken
+  one_more_taken : (r : Record) (past : List Record) → ask u (after u (start period grade bank row) past) r ≡ Taken
       → Tied u period grade bank row past → Tied u period grade bank row (r ∷ past)
-  one-more-taken r past k d =
+  one_more_taken r past k d =
       let s = state_in u.table period grade bank row past in
       let p : ask u s r ≡ Taken = rw d.state at k in
       record {
         state =
             after_more u (start period grade bank row) r past
             ∙ (ap (λ (x : State). next u x r) d.state
-            ∙ state-more u period grade bank row r past (banks_kept u s r p) d.begun (d.word, d.words));
-        begun = λ i. closed_begun u.table period i r past (now s.core r) (allowed-kept u s r p) (d.begun i);
-        word = word_more (module_of grade) r past (mode-kept u s r p) d.word;
+            ∙ state_more u period grade bank row r past (banks_kept u s r p) d.begun (d.word, d.words));
+        begun = λ i. closed_begun u.table period i r past (now s.core r) (allowed_kept u s r p) (d.begun i);
+        word = word_more (module_of grade) r past (mode_kept u s r p) d.word;
         words = (d.word, d.words);
       }
 
   pub tied : (past : List Record) → Took u (start period grade bank row) past → Tied u period grade bank row past
   tied [] k = nothing_yet
-  tied (r ∷ past) k = one-more-taken r past k.0 (tied past k.1)
+  tied (r ∷ past) k = one_more_taken r past k.0 (tied past k.1)

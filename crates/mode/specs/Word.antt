@@ -1,5 +1,5 @@
 -- The mode word, A12 to A0 of a LOAD MODE (01, Commands and what each must find). Definitions only.
-use Rattle.std.specs.Prelude.{ℕ, ◌/◌, ◌%◌, Bool, not, ◌&&◌, ◌||◌, cond, List, [], ◌∷◌, ltb, eqb, get_or}
+use Rattle.std.specs.Prelude.{ℕ, ◌/◌, ◌%◌, Bool, not, ◌&&◌, ◌||◌, cond, [], ◌∷◌, ltb, eqb, get_or}
 use Rattle.units.specs.declared.Module.{Module}
 use Rattle.units.specs.Module.{bench_columns, has_full_page}
 use Rattle.mode.specs.declared.Mode.{Mode}

@@ -45,44 +45,44 @@ each_set f m h same l e =
 
 module _ (k : Command) (t : SpeedTable) (period end : Ps) (again : Bool) (r : Record) (n : Clock) (moment : Ps) where
   -- a command but PRECHARGE touches its own bank alone
-  pub own-commanded : is k Precharge ≡ false → r.ba < 4 → (l : List Bank) → length l ≡ 4
+  pub own_commanded : is k Precharge ≡ false → r.ba < 4 → (l : List Bank) → length l ≡ 4
       → set l r.ba (bank_after k t period end again r n moment r.ba (bank_at l r.ba)) ≡ commanded k t period end again r n moment l
   unfolding commanded bank_after
-  own-commanded h small l e =
+  own_commanded h small l e =
       sym (each_set (bank_after k t period end again r n moment) r.ba small (λ i b d. simp (h, ne_eqb _ _ d, and-false)) l e)
 
-  own-active : is k Active ≡ true → (b : Bank) → activated r.addr n ≡ bank_after k t period end again r n moment r.ba b
+  own_active : is k Active ≡ true → (b : Bank) → activated r.addr n ≡ bank_after k t period end again r n moment r.ba b
   unfolding bank_after
-  own-active h b = rw (h, eq-eqb r.ba r.ba refl)
+  own_active h b = rw (h, eq-eqb r.ba r.ba refl)
 
-  own-auto : is k Active ≡ false → asks_auto k r ≡ true → (b : Bank)
+  own_auto : is k Active ≡ false → asks_auto k r ≡ true → (b : Bank)
       → with_status (auto_closed t period end b.status) b ≡ bank_after k t period end again r n moment r.ba b
   unfolding bank_after
-  own-auto h a b = rw (h, a, eq-eqb r.ba r.ba refl)
+  own_auto h a b = rw (h, a, eq-eqb r.ba r.ba refl)
 
 -- ACTIVE, and a READ or WRITE with auto precharge, change the record's bank; the commands above them change none
 module _ (k : Command) (t : SpeedTable) (period end : Ps) (again : Bool) (r : Record) (n : Clock) (moment : Ps) (l : List Bank) (e : length l ≡ 4) (small : r.ba < 4) where
-  own-place : r.ba % 4 ≡ r.ba
-  own-place = omega (arith, small)
+  own_place : r.ba % 4 ≡ r.ba
+  own_place = omega (arith, small)
 
-  pub active-moved : is k Active ≡ true → set l (r.ba % 4) (activated r.addr n) ≡ commanded k t period end again r n moment l
-  active-moved h =
+  pub active_moved : is k Active ≡ true → set l (r.ba % 4) (activated r.addr n) ≡ commanded k t period end again r n moment l
+  active_moved h =
       let other-one = other (λ k. is k Active) k Precharge refl h in
-      rw own-place
-      (ap (set l r.ba) (own-active k t period end again r n moment h (bank_at l r.ba))
-      ∙ own-commanded k t period end again r n moment other-one small l e)
+      rw own_place
+      (ap (set l r.ba) (own_active k t period end again r n moment h (bank_at l r.ba))
+      ∙ own_commanded k t period end again r n moment other-one small l e)
 
-  pub auto-moved : is k Active ≡ false → asks_auto k r ≡ true
+  pub auto_moved : is k Active ≡ false → asks_auto k r ≡ true
       → set l (r.ba % 4) (with_status (auto_closed t period end (bank_at l (r.ba % 4)).status) (bank_at l (r.ba % 4)))
       ≡ commanded k t period end again r n moment l
-  auto-moved h a =
+  auto_moved h a =
       let other-one = other (λ k. asks_auto k r) k Precharge refl a in
-      rw own-place
-      (ap (set l r.ba) (own-auto k t period end again r n moment h a (bank_at l r.ba))
-      ∙ own-commanded k t period end again r n moment other-one small l e)
+      rw own_place
+      (ap (set l r.ba) (own_auto k t period end again r n moment h a (bank_at l r.ba))
+      ∙ own_commanded k t period end again r n moment other-one small l e)
 
-  pub none-moved : is k Active ≡ false → asks_auto k r ≡ false → looks_at_all k ≡ false → l ≡ commanded k t period end again r n moment l
-  none-moved h a g =
+  pub none_moved : is k Active ≡ false → asks_auto k r ≡ false → looks_at_all k ≡ false → l ≡ commanded k t period end again r n moment l
+  none_moved h a g =
       let other-one = other (λ k. not (looks_at_all k)) k Precharge refl (rw g) in
       sym (untouched k t period end again r n moment (rw (h, a, other-one)) l)
 

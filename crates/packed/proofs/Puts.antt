@@ -95,10 +95,10 @@ module _ (l : List ℕ) (g : Packed l) (i : ℕ) (h : i < 4) {p : ℕ} (hp : p �
   e : length l ≡ 32
   e = ap length g
 
-  pub status-put : (x : Status) {k r n t : ℕ} → StatusNumbers x k r n t
+  pub status_put : (x : Status) {k r n t : ℕ} → StatusNumbers x k r n t
       → Held (put_status l p k r n t) (set (banks_in l) i (with_status x (bank_at (banks_in l) i)))
   unfolding bank_in
-  status-put x {k} {r} {n} {t} w =
+  status_put x {k} {r} {n} {t} w =
       let b : banks_in (put_status l p k r n t) ≡ set (banks_in l) i (with_status (status_in k r n t) (bank_at (banks_in l) i)) =
       ap (λ (p : ℕ). banks_in (put_status l p k r n t)) hp
       ∙ at_each
@@ -114,9 +114,9 @@ module _ (l : List ℕ) (g : Packed l) (i : ℕ) (h : i < 4) {p : ℕ} (hp : p �
             refl refl refl refl i h;
       }
 
-  pub stored-put : (n : Clock) → Held (put_stored l p 1 n.0) (set (banks_in l) i (marked true n (bank_at (banks_in l) i)))
+  pub stored_put : (n : Clock) → Held (put_stored l p 1 n.0) (set (banks_in l) i (marked true n (bank_at (banks_in l) i)))
   unfolding bank_in event_in
-  stored-put n =
+  stored_put n =
       record {
         numbers =
             (λ j. put_stored (g j) (hp j) 1 n.0)
@@ -129,10 +129,10 @@ module _ (l : List ℕ) (g : Packed l) (i : ℕ) (h : i < 4) {p : ℕ} (hp : p �
             (λ f. refl) (λ f. refl) (λ f. refl) (λ f. refl) i h l e;
       }
 
-  pub bank-put : (b : Bank) {k r n t a x c d : ℕ} → StatusNumbers b.status k r n t → EventNumbers b.active a x → EventNumbers b.stored c d
+  pub bank_put : (b : Bank) {k r n t a x c d : ℕ} → StatusNumbers b.status k r n t → EventNumbers b.active a x → EventNumbers b.stored c d
       → Held (put_stored (put_active (put_status l p k r n t) p a x) p c d) (set (banks_in l) i b)
   unfolding bank_in
-  bank-put b {k} {r} {n} {t} {a} {x} {c} {d} hs ha ht =
+  bank_put b {k} {r} {n} {t} {a} {x} {c} {d} hs ha ht =
       let y : banks_in (put_stored (put_active (put_status l p k r n t) p a x) p c d)
       ≡ set (banks_in l) i (record { status = status_in k r n t; active = event_in a x; stored = event_in c d }) =
       ap (λ (p : ℕ). banks_in (put_stored (put_active (put_status l p k r n t) p a x) p c d)) hp

@@ -17,7 +17,7 @@ module _ (at low dq : ℕ) (page : List ℕ) where
   first_lane (suc k) h next e = let less : suc k - 1 ≡ k = omega arith in rw (less, e)
 
   -- where none are left, the page stays
-  pub no-lane : (left : ℕ) → left ≤ 0 → put_lanes left at low dq page ≡ page
+  pub no_lane : (left : ℕ) → left ≤ 0 → put_lanes left at low dq page ≡ page
   unfolding put_lanes
-  no-lane zero h = refl
-  no-lane (suc k) h = absurd (omega arith)
+  no_lane zero h = refl
+  no_lane (suc k) h = absurd (omega arith)

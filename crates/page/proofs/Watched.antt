@@ -14,6 +14,6 @@ module _ (m : Module) (bank row dq : ℕ) (c : Cells) (page : List ℕ) where
   unfolding stored
   watched h = rw h
 
-  pub not-watched : (eqb c.bank bank && eqb c.row row) ≡ false → page ≡ stored m bank row dq (Stores c) page
+  pub not_watched : (eqb c.bank bank && eqb c.row row) ≡ false → page ≡ stored m bank row dq (Stores c) page
   unfolding stored
-  not-watched h = rw h
+  not_watched h = rw h

@@ -65,22 +65,22 @@ event_fit Never h = tt
 event_fit (On x) h = leb-true _ _ h
 
 module _ (m : Module) where
-  status-both : (x : Status) → status_fits m x ≡ true → FitStatus x × StatusOn m x
-  status-both NotStarted h = (tt, tt)
-  status-both (Open row n) h = let p = both (ltb row (rows m)) _ h in (leb-true _ _ p.1, ltb-true _ _ p.0)
-  status-both (Closed t) h = (leb-true _ _ h, tt)
+  status_both : (x : Status) → status_fits m x ≡ true → FitStatus x × StatusOn m x
+  status_both NotStarted h = (tt, tt)
+  status_both (Open row n) h = let p = both (ltb row (rows m)) _ h in (leb-true _ _ p.1, ltb-true _ _ p.0)
+  status_both (Closed t) h = (leb-true _ _ h, tt)
 
-  bank-both : (b : Bank) → bank_fits m b ≡ true → FitBank b × BankOn m b
+  bank_both : (b : Bank) → bank_fits m b ≡ true → FitBank b × BankOn m b
   unfolding bank_fits
-  bank-both b h =
+  bank_both b h =
       let p = both _ _ h in
       let q = both _ _ p.0 in
-      let x = status-both b.status q.0 in
+      let x = status_both b.status q.0 in
       (record { status = x.0; active = event_fit b.active q.1; stored = event_fit b.stored p.1 }, x.1)
 
-  burst-both : (b : Burst) → burst_fits m b ≡ true → FitBurst b × BurstOn m b
+  burst_both : (b : Burst) → burst_fits m b ≡ true → FitBurst b × BurstOn m b
   unfolding burst_fits
-  burst-both b h =
+  burst_both b h =
       let word = both _ _ h in
       let cut = both _ _ word.0 in
       let start = both _ _ cut.0 in
@@ -91,48 +91,48 @@ module _ (m : Module) where
       )
 
   -- what the test shows of one it shows of each
-  each-bank-by : (P : Bank → Type 0) → ((b : Bank) → bank_fits m b ≡ true → P b) → (bs : List Bank) → every (bank_fits m) bs ≡ true → Each P bs
-  each-bank-by P one [] h = tt
-  each-bank-by P one (b ∷ bs) h = let p = both _ _ h in (one b p.0, each-bank-by P one bs p.1)
+  each_bank_by : (P : Bank → Type 0) → ((b : Bank) → bank_fits m b ≡ true → P b) → (bs : List Bank) → every (bank_fits m) bs ≡ true → Each P bs
+  each_bank_by P one [] h = tt
+  each_bank_by P one (b ∷ bs) h = let p = both _ _ h in (one b p.0, each_bank_by P one bs p.1)
 
-  each-burst-by : (P : Burst → Type 0) → ((b : Burst) → burst_fits m b ≡ true → P b) → (bs : List Burst) → bursts_fit m bs ≡ true → Each P bs
-  each-burst-by P one [] h = tt
-  each-burst-by P one (b ∷ bs) h = let p = both _ _ h in (one b p.0, each-burst-by P one bs p.1)
+  each_burst_by : (P : Burst → Type 0) → ((b : Burst) → burst_fits m b ≡ true → P b) → (bs : List Burst) → bursts_fit m bs ≡ true → Each P bs
+  each_burst_by P one [] h = tt
+  each_burst_by P one (b ∷ bs) h = let p = both _ _ h in (one b p.0, each_burst_by P one bs p.1)
 
-  bus-by : (P : Burst → Type 0) → ((b : Burst) → burst_fits m b ≡ true → P b) → (u : Bus) → bus_fits m u ≡ true → EachBurst P u
-  bus-by P one u h = let p = both _ _ h in record { write = one u.write p.0; reads = each-burst-by P one u.reads p.1 }
+  bus_by : (P : Burst → Type 0) → ((b : Burst) → burst_fits m b ≡ true → P b) → (u : Bus) → bus_fits m u ≡ true → EachBurst P u
+  bus_by P one u h = let p = both _ _ h in record { write = one u.write p.0; reads = each_burst_by P one u.reads p.1 }
 
-  register-both : (x : Register) → register_fits m x ≡ true → FitRegister x × RegisterOn m x
-  register-both Unloaded h = (tt, tt)
-  register-both (Loaded word n) h = let p = both (legal m word) _ h in (leb-true _ _ p.1, p.0)
+  register_both : (x : Register) → register_fits m x ≡ true → FitRegister x × RegisterOn m x
+  register_both Unloaded h = (tt, tt)
+  register_both (Loaded word n) h = let p = both (legal m word) _ h in (leb-true _ _ p.1, p.0)
 
-  startup-both : (u : StartUp) → startup_fits m u ≡ true → FitStartUp u × RegisterOn m u.register
-  startup-both u h =
+  startup_both : (u : StartUp) → startup_fits m u ≡ true → FitStartUp u × RegisterOn m u.register
+  startup_both u h =
       let p = both _ _ h in
       let q = both _ _ p.0 in
-      let x = register-both u.register p.1 in
+      let x = register_both u.register p.1 in
       (record { allclosed = event_fit u.allclosed q.0; refreshed = event_fit (last_refresh u.refreshes) q.1; register = x.0 }, x.1)
 
-  core-both : (c : Core) → core_fits m c ≡ true → FitCore c × CoreOn m c
+  core_both : (c : Core) → core_fits m c ≡ true → FitCore c × CoreOn m c
   unfolding core_fits
-  core-both c h =
+  core_both c h =
       let bus = both _ _ h in
       let startup = both _ _ bus.0 in
       let last = both _ _ startup.0 in
       let number = both _ _ last.0 in
       let row = both _ _ number.0 in
-      let x = startup-both c.startup startup.1 in (
+      let x = startup_both c.startup startup.1 in (
         record {
           number = leb-true _ _ number.1;
           last = event_fit c.last last.1;
           startup = x.0;
-          bus = bus-by FitBurst (λ b k. (burst-both b k).0) c.bus bus.1;
+          bus = bus_by FitBurst (λ b k. (burst_both b k).0) c.bus bus.1;
         },
         record {
           bank = ltb-true _ _ row.0;
           row = ltb-true _ _ row.1;
           register = x.1;
-          bus = bus-by (BurstOn m) (λ b k. (burst-both b k).1) c.bus bus.1;
+          bus = bus_by (BurstOn m) (λ b k. (burst_both b k).1) c.bus bus.1;
         },
       )
 
@@ -141,11 +141,11 @@ unfolding fits
 admitted s h =
     let m = state_module s in
     let p = both _ _ h in
-    let core = core-both m s.core p.0 in
+    let core = core_both m s.core p.0 in
     record {
       core = core.0;
-      banks = each-bank-by m FitBank (λ b k. (bank-both m b k).0) s.banks p.1;
-      places = record { core = core.1; banks = each-bank-by m (BankOn m) (λ b k. (bank-both m b k).1) s.banks p.1 };
+      banks = each_bank_by m FitBank (λ b k. (bank_both m b k).0) s.banks p.1;
+      places = record { core = core.1; banks = each_bank_by m (BankOn m) (λ b k. (bank_both m b k).1) s.banks p.1 };
     }
 
 -- ── From the facts to the test ──
@@ -155,56 +155,56 @@ fit_event Never f = refl
 fit_event (On x) f = le-leb _ _ f
 
 module _ (m : Module) where
-  fit-status : (x : Status) → FitStatus x → StatusOn m x → status_fits m x ≡ true
-  fit-status NotStarted f o = refl
-  fit-status (Open row n) f o = joined (lt-ltb _ _ o) (le-leb _ _ f)
-  fit-status (Closed t) f o = le-leb _ _ f
+  fit_status : (x : Status) → FitStatus x → StatusOn m x → status_fits m x ≡ true
+  fit_status NotStarted f o = refl
+  fit_status (Open row n) f o = joined (lt-ltb _ _ o) (le-leb _ _ f)
+  fit_status (Closed t) f o = le-leb _ _ f
 
-  fit-bank : (b : Bank) → FitBank b → BankOn m b → bank_fits m b ≡ true
+  fit_bank : (b : Bank) → FitBank b → BankOn m b → bank_fits m b ≡ true
   unfolding bank_fits
-  fit-bank b f o =
-      joined (joined (fit-status b.status f.status o) (fit_event b.active f.active)) (fit_event b.stored f.stored)
+  fit_bank b f o =
+      joined (joined (fit_status b.status f.status o) (fit_event b.active f.active)) (fit_event b.stored f.stored)
 
-  fit-banks : (bs : List Bank) → Each FitBank bs → Each (BankOn m) bs → every (bank_fits m) bs ≡ true
-  fit-banks [] f o = refl
-  fit-banks (b ∷ bs) f o = joined (fit-bank b f.0 o.0) (fit-banks bs f.1 o.1)
+  fit_banks : (bs : List Bank) → Each FitBank bs → Each (BankOn m) bs → every (bank_fits m) bs ≡ true
+  fit_banks [] f o = refl
+  fit_banks (b ∷ bs) f o = joined (fit_bank b f.0 o.0) (fit_banks bs f.1 o.1)
 
-  fit-burst : (b : Burst) → FitBurst b → BurstOn m b → burst_fits m b ≡ true
+  fit_burst : (b : Burst) → FitBurst b → BurstOn m b → burst_fits m b ≡ true
   unfolding burst_fits
-  fit-burst b f o =
+  fit_burst b f o =
       joined
       (joined
       (joined (joined (joined (lt-ltb _ _ o.bank) (lt-ltb _ _ o.row)) (lt-ltb _ _ o.column)) (le-leb _ _ f.start))
       (fit_event b.cut f.cut))
       o.word
 
-  fit-bursts : (bs : List Burst) → Each FitBurst bs → Each (BurstOn m) bs → bursts_fit m bs ≡ true
-  fit-bursts [] f o = refl
-  fit-bursts (b ∷ bs) f o = joined (fit-burst b f.0 o.0) (fit-bursts bs f.1 o.1)
+  fit_bursts : (bs : List Burst) → Each FitBurst bs → Each (BurstOn m) bs → bursts_fit m bs ≡ true
+  fit_bursts [] f o = refl
+  fit_bursts (b ∷ bs) f o = joined (fit_burst b f.0 o.0) (fit_bursts bs f.1 o.1)
 
-  fit-register : (x : Register) → FitRegister x → RegisterOn m x → register_fits m x ≡ true
-  fit-register Unloaded f o = refl
-  fit-register (Loaded word n) f o = joined o (le-leb _ _ f)
+  fit_register : (x : Register) → FitRegister x → RegisterOn m x → register_fits m x ≡ true
+  fit_register Unloaded f o = refl
+  fit_register (Loaded word n) f o = joined o (le-leb _ _ f)
 
-  fit-startup : (u : StartUp) → FitStartUp u → RegisterOn m u.register → startup_fits m u ≡ true
-  fit-startup u f o =
+  fit_startup : (u : StartUp) → FitStartUp u → RegisterOn m u.register → startup_fits m u ≡ true
+  fit_startup u f o =
       joined (joined (fit_event u.allclosed f.allclosed) (fit_event (last_refresh u.refreshes) f.refreshed))
-      (fit-register u.register f.register o)
+      (fit_register u.register f.register o)
 
-  fit-core : (c : Core) → FitCore c → CoreOn m c → core_fits m c ≡ true
+  fit_core : (c : Core) → FitCore c → CoreOn m c → core_fits m c ≡ true
   unfolding core_fits
-  fit-core c f o =
+  fit_core c f o =
       joined
       (joined
       (joined (joined (joined (lt-ltb _ _ o.bank) (lt-ltb _ _ o.row)) (le-leb _ _ f.number)) (fit_event c.last f.last))
-      (fit-startup c.startup f.startup o.register))
-      (joined (fit-burst c.bus.write f.bus.write o.bus.write) (fit-bursts c.bus.reads f.bus.reads o.bus.reads))
+      (fit_startup c.startup f.startup o.register))
+      (joined (fit_burst c.bus.write f.bus.write o.bus.write) (fit_bursts c.bus.reads f.bus.reads o.bus.reads))
 
 pub fits_admitted : (s : State) → Admitted s → fits s ≡ true
 unfolding fits
 fits_admitted s f =
     let m = state_module s in
-    joined (fit-core m s.core f.core f.places.core) (fit-banks m s.banks f.banks f.places.banks)
+    joined (fit_core m s.core f.core f.places.core) (fit_banks m s.banks f.banks f.places.banks)
 
 -- ── Parts of an admitted state ──
 

@@ -17,7 +17,7 @@ use Rattle.rules.specs.After.{own_row, beat, core_after, banks_after, next}
 use Rattle.rules.specs.Run.{Line, Run, line, with_line, run}
 use Rattle.rules.specs.Harder.{NowhereHarder, NearBanks}
 use Rattle.rules.proofs.Near.{near_at, near_row, near_self}
-use Rattle.rules.proofs.Easier.{state_of, setup, easier-taken, near-after}
+use Rattle.rules.proofs.Easier.{state_of, setup, easier_taken, near_after}
 use Rattle.rules.proofs.Runs.{run_taken, by_answer, reports, before_stop}
 
 -- the second run goes at least as far as the first, with its lines; where the first is clean the two are equal
@@ -44,12 +44,12 @@ module _ {t u : SpeedTable} (e : NowhereHarder t u) where
   follows c {bs} {ds} h (r ∷ rs) =
       let row = own_row (state_of c bs) r in
       by_answer (λ a. Follows a (run (setup u) (state_of c ds) (r ∷ rs))) (setup t) (state_of c bs) r rs
-      (λ p. rw (run_taken (setup u) (state_of c ds) r rs (easier-taken e c r h p))
+      (λ p. rw (run_taken (setup u) (state_of c ds) r rs (easier_taken e c r h p))
       (subst (λ (m : ℕ). Follows (with_line (line (state_of c bs) r) (run (setup t) (next (setup t) (state_of c bs) r) rs))
       (with_line (record { clock = clock_of c r; beat = beat c r m })
       (run (setup u) (state_of (core_after c r m) (banks_after u c r (beat c r m) ds)) rs)))
       (near_row (near_at h r.ba))
-      (follows_line (line (state_of c bs) r) (follows (core_after c r row) (near-after e c r (beat c r row) h) rs))))
+      (follows_line (line (state_of c bs) r) (follows (core_after c r row) (near_after e c r (beat c r row) h) rs))))
       (λ n i p. record {
         more = (run (setup u) (state_of c ds) (r ∷ rs)).lines;
         lines = refl;

@@ -86,84 +86,84 @@ near_precharged true p (earlier h) = earlier h
 near_precharged false p (earlier h) = same
 
 module _ {t u : SpeedTable} (e : NowhereHarder t u) where
-  tCK-le : (w : ℕ) → (tCK u w).0 ≤ (tCK t w).0
-  tCK-le w = cond_le (eqb (latency w) 2) e.tck2 e.tck3
+  tCK_le : (w : ℕ) → (tCK u w).0 ≤ (tCK t w).0
+  tCK_le w = cond_le (eqb (latency w) 2) e.tck2 e.tck3
 
-  end-le : (k : Command) (period : Ps) (w : ℕ) (n : Clock) → (burst_end k u period w n).0 ≤ (burst_end k t period w n).0
-  end-le k period w n = cond_le (is k Write) (omega (arith, e.addition)) (le_refl _)
+  end_le : (k : Command) (period : Ps) (w : ℕ) (n : Clock) → (burst_end k u period w n).0 ≤ (burst_end k t period w n).0
+  end_le k period w n = cond_le (is k Write) (omega (arith, e.addition)) (le_refl _)
 
-  closing-le : (period : Ps) (active : Clock) {x y : Ps} → y.0 ≤ x.0 → (closing_time u period active y).0 ≤ (closing_time t period active x).0
-  closing-le period active h = omega (arith, e.trasmin)
+  closing_le : (period : Ps) (active : Clock) {x y : Ps} → y.0 ≤ x.0 → (closing_time u period active y).0 ≤ (closing_time t period active x).0
+  closing_le period active h = omega (arith, e.trasmin)
 
-  ⊑-open-within : (period n : Ps) (b d : Bank) → Near b d → open_within period t.trasmax n b.status ⊑ open_within period u.trasmax n d.status
-  ⊑-open-within period n b d (earlier h) = ⊑_self
-  ⊑-open-within period n b d same = one b.status
+  ⊑_open_within : (period n : Ps) (b d : Bank) → Near b d → open_within period t.trasmax n b.status ⊑ open_within period u.trasmax n d.status
+  ⊑_open_within period n b d (earlier h) = ⊑_self
+  ⊑_open_within period n b d same = one b.status
     where
       one : (x : Status) → open_within period t.trasmax n x ⊑ open_within period u.trasmax n x
       one NotStarted = ⊑_self
       one (Open row active) = ⊑_leb (le_refl n.0) (omega (arith, e.trasmax))
       one (Closed p) = ⊑_self
 
-  ⊑-within : (period n : Ps) (x : Event) → within period t.interval n x ⊑ within period u.interval n x
-  ⊑-within period n Never = ⊑_self
-  ⊑-within period n (On x) = ⊑_leb (le_refl n.0) (omega (arith, e.interval))
+  ⊑_within : (period n : Ps) (x : Event) → within period t.interval n x ⊑ within period u.interval n x
+  ⊑_within period n Never = ⊑_self
+  ⊑_within period n (On x) = ⊑_leb (le_refl n.0) (omega (arith, e.interval))
 
-  ⊑-closes : (period : Ps) {x y : Ps} → y.0 ≤ x.0 → (b d : Bank) → Near b d → closes_within t period x b.status ⊑ closes_within u period y d.status
-  ⊑-closes period h b d (earlier g) = ⊑_self
-  ⊑-closes period {x} {y} h b d same = one b.status
+  ⊑_closes : (period : Ps) {x y : Ps} → y.0 ≤ x.0 → (b d : Bank) → Near b d → closes_within t period x b.status ⊑ closes_within u period y d.status
+  ⊑_closes period h b d (earlier g) = ⊑_self
+  ⊑_closes period {x} {y} h b d same = one b.status
     where
       one : (b : Status) → closes_within t period x b ⊑ closes_within u period y b
       one NotStarted = ⊑_self
-      one (Open row active) = ⊑_leb (closing-le period active h) (omega (arith, e.trasmax))
+      one (Open row active) = ⊑_leb (closing_le period active h) (omega (arith, e.trasmax))
       one (Closed p) = ⊑_self
 
   -- a minimum that the tables give as f
-  ⊑-minimum : (k : ℕ) (n : Ps) (f : SpeedTable → Ps) → (f u).0 ≤ (f t).0 → {l m : List Since} → Lower l m → met k (f t) n l ⊑ met k (f u) n m
-  ⊑-minimum k n f h l = ⊑_met k n h l
+  ⊑_minimum : (k : ℕ) (n : Ps) (f : SpeedTable → Ps) → (f u).0 ≤ (f t).0 → {l m : List Since} → Lower l m → met k (f t) n l ⊑ met k (f u) n m
+  ⊑_minimum k n f h l = ⊑_met k n h l
 
   -- a line for each row of the verdict table, in its order
-  softer-every : (period : Ps) (f : Refreshes) (r : Record) (n : Clock) (moment : Ps) {bs ds : List Bank} → NearBanks bs ds
+  softer_every : (period : Ps) (f : Refreshes) (r : Record) (n : Clock) (moment : Ps) {bs ds : List Bank} → NearBanks bs ds
       → Softer (every_rules t period f bs r n moment) (every_rules u period f ds r n moment)
   unfolding every_rules
-  softer-every period f r n moment h =
+  softer_every period f r n moment h =
       ⊑_self
       ▸ ⊑_self
       ▸ ⊑_self
-      ▸ ⊑-within period moment (counted_refresh f)
+      ▸ ⊑_within period moment (counted_refresh f)
       ▸ ⊑_every (λ b. open_within period t.trasmax moment b.status) (λ b. open_within period u.trasmax moment b.status)
-      (⊑-open-within period moment) h
+      (⊑_open_within period moment) h
       ▸ end
 
-  softer-place : (k : Command) (s : StartUp) (r : Record) (moment : Ps) {bs ds : List Bank} → NearBanks bs ds
+  softer_place : (k : Command) (s : StartUp) (r : Record) (moment : Ps) {bs ds : List Bank} → NearBanks bs ds
       → Softer (place_rules k s bs r moment) (place_rules k s ds r moment)
   unfolding place_rules
-  softer-place k s r moment h = ⊑_self ▸ ⊑_found k r.ba h ▸ end
+  softer_place k s r moment h = ⊑_self ▸ ⊑_found k r.ba h ▸ end
 
-  softer-minimum : (period n : Ps) {l m : List Since} → Lower l m → Softer (minimum_rules t period n l) (minimum_rules u period n m)
+  softer_minimum : (period n : Ps) {l m : List Since} → Lower l m → Softer (minimum_rules t period n l) (minimum_rules u period n m)
   unfolding minimum_rules
-  softer-minimum period n l =
-      ⊑-minimum tRCD n (λ x. x.trcd) e.trcd l
-      ▸ ⊑-minimum tRAS n (λ x. x.trasmin) e.trasmin l
-      ▸ ⊑-minimum tRC n (λ x. x.trc) e.trc l
-      ▸ ⊑-minimum tRP n (λ x. x.trp) e.trp l
-      ▸ ⊑-minimum tRRD n (λ x. x.trrd) e.trrd l
-      ▸ ⊑-minimum tRFC n (λ x. x.trfc) e.trfc l
-      ▸ ⊑-minimum tWR n (λ x. x.twr) e.twr l
-      ▸ ⊑-minimum tMRD n (λ x. at period x.tmrd) (mul-le-mul_right period.0 e.tmrd) l
+  softer_minimum period n l =
+      ⊑_minimum tRCD n (λ x. x.trcd) e.trcd l
+      ▸ ⊑_minimum tRAS n (λ x. x.trasmin) e.trasmin l
+      ▸ ⊑_minimum tRC n (λ x. x.trc) e.trc l
+      ▸ ⊑_minimum tRP n (λ x. x.trp) e.trp l
+      ▸ ⊑_minimum tRRD n (λ x. x.trrd) e.trrd l
+      ▸ ⊑_minimum tRFC n (λ x. x.trfc) e.trfc l
+      ▸ ⊑_minimum tWR n (λ x. x.twr) e.twr l
+      ▸ ⊑_minimum tMRD n (λ x. at period x.tmrd) (mul-le-mul_right period.0 e.tmrd) l
       ▸ end
 
-  softer-mode : (k : Command) (m : Module) (period : Ps) (r : Record) → Softer (mode_rules k t m period r) (mode_rules k u m period r)
+  softer_mode : (k : Command) (m : Module) (period : Ps) (r : Record) → Softer (mode_rules k t m period r) (mode_rules k u m period r)
   unfolding mode_rules
-  softer-mode k m period r = ⊑_self ▸ ⊑_if (is k LoadMode) (⊑_leb (tCK-le r.addr) (le_refl period.0)) ▸ end
+  softer_mode k m period r = ⊑_self ▸ ⊑_if (is k LoadMode) (⊑_leb (tCK_le r.addr) (le_refl period.0)) ▸ end
 
-  softer-bus : (k : Command) (period : Ps) (word : ℕ) (finished clear : Bool) (r : Record) (n : Clock) (b d : Bank) → Near b d
+  softer_bus : (k : Command) (period : Ps) (word : ℕ) (finished clear : Bool) (r : Record) (n : Clock) (b d : Bank) → Near b d
       → Softer (bus_rules k t period word finished clear b.status r n) (bus_rules k u period word finished clear d.status r n)
   unfolding bus_rules
-  softer-bus k period word finished clear r n b d h =
+  softer_bus k period word finished clear r n b d h =
       ⊑_self
       ▸ ⊑_self
       ▸ ⊑_self
-      ▸ ⊑_if (asks_auto k r) (⊑-closes period (end-le k period word n) b d h)
+      ▸ ⊑_if (asks_auto k r) (⊑_closes period (end_le k period word n) b d h)
       ▸ end
 
   -- whatever parts of the state the two have in common
@@ -172,49 +172,49 @@ module _ {t u : SpeedTable} (e : NowhereHarder t u) where
   unfolding rules command_rules
   softer m period v finished clear r n moment h =
       let k = command r in
-      softer-every period v.refreshes r n moment h
+      softer_every period v.refreshes r n moment h
       ⧺ softer_asked (executable k)
-      (softer-place k v r moment h
-      ⧺ (softer-minimum period moment (lower_minima k period v r h)
-      ⧺ (softer-mode k m period r ⧺ softer-bus k period (word_in v.register) finished clear r n _ _ (near_at h r.ba))))
+      (softer_place k v r moment h
+      ⧺ (softer_minimum period moment (lower_minima k period v r h)
+      ⧺ (softer_mode k m period r ⧺ softer_bus k period (word_in v.register) finished clear r n _ _ (near_at h r.ba))))
 
-  pub easier-taken : (c : Core) (r : Record) {bs ds : List Bank} → NearBanks bs ds
+  pub easier_taken : (c : Core) (r : Record) {bs ds : List Bank} → NearBanks bs ds
       → ask (setup t) (state_of c bs) r ≡ Taken → ask (setup u) (state_of c ds) r ≡ Taken
   unfolding ask
-  easier-taken c r h p =
+  easier_taken c r h p =
       let f = found c [] (clock_of c r) in
       softer_taken (softer (core_module c) c.period c.startup f.finished f.clear r (clock_of c r) (now c r) h) p
 
   -- ── What a record leaves ──
 
-  near-auto : (period : Ps) {x y : Ps} → y.0 ≤ x.0 → (b d : Bank) → Near b d
+  near_auto : (period : Ps) {x y : Ps} → y.0 ≤ x.0 → (b d : Bank) → Near b d
       → Near (with_status (auto_closed t period x b.status) b) (with_status (auto_closed u period y d.status) d)
-  near-auto period h b d (earlier g) = earlier g
-  near-auto period {x} {y} h b d same = one b.status b.active b.stored
+  near_auto period h b d (earlier g) = earlier g
+  near_auto period {x} {y} h b d same = one b.status b.active b.stored
     where
       one : (s : Status) (a w : Event)
           → Near (record { status = auto_closed t period x s; active = a; stored = w }) (record { status = auto_closed u period y s; active = a; stored = w })
       one NotStarted a w = same
-      one (Open row n) a w = earlier (closing-le period n h)
+      one (Open row n) a w = earlier (closing_le period n h)
       one (Closed p) a w = same
 
-  near-bank : (k : Command) (period : Ps) {x y : Ps} → y.0 ≤ x.0 → (again : Bool) (r : Record) (n : Clock) (moment : Ps) (i : ℕ) (b d : Bank) → Near b d
+  near_bank : (k : Command) (period : Ps) {x y : Ps} → y.0 ≤ x.0 → (again : Bool) (r : Record) (n : Clock) (moment : Ps) (i : ℕ) (b d : Bank) → Near b d
       → Near (bank_after k t period x again r n moment i b) (bank_after k u period y again r n moment i d)
   unfolding bank_after
-  near-bank k period e again r n moment i b d h =
+  near_bank k period e again r n moment i b d h =
       near_cond (is k Active && eqb i r.ba) same
-      (near_cond (asks_auto k r && eqb i r.ba) (near-auto period e b d h)
+      (near_cond (asks_auto k r && eqb i r.ba) (near_auto period e b d h)
       (near_cond (is k Precharge && covers r.addr r.ba i) (near_precharged again moment h) h))
 
-  near-commanded : (k : Command) (period : Ps) {x y : Ps} → y.0 ≤ x.0 → (again : Bool) (r : Record) (n : Clock) (moment : Ps) {bs ds : List Bank} → NearBanks bs ds
+  near_commanded : (k : Command) (period : Ps) {x y : Ps} → y.0 ≤ x.0 → (again : Bool) (r : Record) (n : Clock) (moment : Ps) {bs ds : List Bank} → NearBanks bs ds
       → NearBanks (commanded k t period x again r n moment bs) (commanded k u period y again r n moment ds)
   unfolding commanded
-  near-commanded k period {x} {y} e again r n moment h =
-      near_each (bank_after k t period x again r n moment) (bank_after k u period y again r n moment) (near-bank k period e again r n moment) 0 h
+  near_commanded k period {x} {y} e again r n moment h =
+      near_each (bank_after k t period x again r n moment) (bank_after k u period y again r n moment) (near_bank k period e again r n moment) 0 h
 
-  pub near-after : (c : Core) (r : Record) (w : Beat) {bs ds : List Bank} → NearBanks bs ds → NearBanks (banks_after t c r w bs) (banks_after u c r w ds)
+  pub near_after : (c : Core) (r : Record) (w : Beat) {bs ds : List Bank} → NearBanks bs ds → NearBanks (banks_after t c r w bs) (banks_after u c r w ds)
   unfolding banks_after mark_banks
-  near-after c r w h =
+  near_after c r w h =
       near_each (λ i b. marked (stores_in w i) (clock_of c r) b) (λ i b. marked (stores_in w i) (clock_of c r) b)
       (λ i b d n. near_marked (stores_in w i) (clock_of c r) n) 0
-      (near-commanded (command r) c.period (end-le (command r) c.period (word c) (clock_of c r)) (begun c.startup) r (clock_of c r) (now c r) h)
+      (near_commanded (command r) c.period (end_le (command r) c.period (word c) (clock_of c r)) (begun c.startup) r (clock_of c r) (now c r) h)

@@ -42,7 +42,7 @@ use Rattle.rules.proofs.Kept.{rules_of, command_rules_of, kept, all_numbers, num
 use Rattle.rules.proofs.Admitted.{admitted, fits_admitted}
 use Rattle.rules.proofs.Stays.{Entered, stays}
 use Rattle.rules.proofs.Near.{near_at, near_row, ⊑_every}
-use Rattle.rules.proofs.Easier.{state_of, setup, easier-taken, near-after}
+use Rattle.rules.proofs.Easier.{state_of, setup, easier_taken, near_after}
 
 -- ── The state's module ──
 
@@ -237,35 +237,35 @@ pub record Agree (a b : Stepped) : Type 0 where
   pub next : NearStates a.next b.next
 
 module _ {t u : SpeedTable} (e : NowhereHarder t u) (fit : table_fits u ≡ true) (bytes page : List ℕ) where
-  entry-softer : (c : Core) {bs ds : List Bank} → NearBanks bs ds
+  entry_softer : (c : Core) {bs ds : List Bank} → NearBanks bs ds
       → Softer (entry_rules (setup t) (state_of c bs) bytes page) (entry_rules (setup u) (state_of c ds) bytes page)
   unfolding entry_rules state_rules
-  entry-softer c h = ⊑_self ▸ ⊑_self ▸ ⊑_self ▸ ⊑_true (table_fits t) fit ▸ ⊑_self ▸ ⊑_fits c h ▸ end
+  entry_softer c h = ⊑_self ▸ ⊑_self ▸ ⊑_self ▸ ⊑_true (table_fits t) fit ▸ ⊑_self ▸ ⊑_fits c h ▸ end
 
   -- what the easier table leaves, by the open row
-  abbrev easier-left : Core → Record → List Bank → ℕ → Stepped
-  easier-left c r ds row =
+  abbrev easier_left : Core → Record → List Bank → ℕ → Stepped
+  easier_left c r ds row =
       stepped (answer_of 0 0 c.number (beat c r row)) (state_of (core_after c r row) (banks_after u c r (beat c r row) ds))
       (stored (core_module c) c.bank c.row r.dq (beat c r row) page)
 
-  taken-agree : (c : Core) (r : Record) {bs ds : List Bank} → NearBanks bs ds → Agree (taken (setup t) (state_of c bs) r page) (taken (setup u) (state_of c ds) r page)
+  taken_agree : (c : Core) (r : Record) {bs ds : List Bank} → NearBanks bs ds → Agree (taken (setup t) (state_of c bs) r page) (taken (setup u) (state_of c ds) r page)
   unfolding next
-  taken-agree c r {bs} {ds} h =
-      subst (λ (row : ℕ). Agree (taken (setup t) (state_of c bs) r page) (easier-left c r ds row)) (near_row (near_at h r.ba))
-      (record { answer = refl; page = refl; next = near (near-after e c r (own_beat (state_of c bs) r) h) })
+  taken_agree c r {bs} {ds} h =
+      subst (λ (row : ℕ). Agree (taken (setup t) (state_of c bs) r page) (easier_left c r ds row)) (near_row (near_at h r.ba))
+      (record { answer = refl; page = refl; next = near (near_after e c r (own_beat (state_of c bs) r) h) })
 
   -- a record that the harder table takes from a state is taken by the easier one from each state near to it
-  pub demand-3-step : {s s' : State} → NearStates s s' → (step (setup t) s bytes page).answer.number ≡ 0
+  pub demand_3_step : {s s' : State} → NearStates s s' → (step (setup t) s bytes page).answer.number ≡ 0
       → Agree (step (setup t) s bytes page) (step (setup u) s' bytes page)
-  demand-3-step (near {c = c} {bs = bs} {ds = ds} h) z =
+  demand_3_step (near {c = c} {bs = bs} {ds = ds} h) z =
       let went = taken_at_zero (setup t) (state_of c bs) bytes page z in
       let goes : Entering (setup u) (state_of c ds) bytes page =
       record {
-        entered = softer_taken (entry-softer c h) went.entered;
-        asked = easier-taken e c (record_of (core_module c) bytes) h went.asked;
+        entered = softer_taken (entry_softer c h) went.entered;
+        asked = easier_taken e c (record_of (core_module c) bytes) h went.asked;
       } in
       rw (step_taken (setup t) (state_of c bs) bytes page went, step_taken (setup u) (state_of c ds) bytes page goes)
-      (taken-agree c (record_of (core_module c) bytes) h)
+      (taken_agree c (record_of (core_module c) bytes) h)
 
 -- ── Admitted stays admitted, by the call ──
 

@@ -68,25 +68,25 @@ module _ (u : Setup) (s : State) (r : Record) (p : ask u s r ≡ Taken) where
   -- ── Every record ──
 
   -- 10
-  pub zeros-kept : r.zeros ≡ 0
+  pub zeros_kept : r.zeros ≡ 0
   unfolding ask rules every_rules
-  zeros-kept = eqb-true _ _ (kept 10 0 (rules_of u s r) p)
+  zeros_kept = eqb-true _ _ (kept 10 0 (rules_of u s r) p)
 
   -- 23
-  pub clock-kept : (clock_of s.core r).0 ≤ clock_max
+  pub clock_kept : (clock_of s.core r).0 ≤ clock_max
   unfolding ask rules every_rules
-  clock-kept = leb-true _ _ (kept 23 0 (rules_of u s r) p)
+  clock_kept = leb-true _ _ (kept 23 0 (rules_of u s r) p)
 
   -- 11
-  pub cke-kept : r.cke ≡ 1
+  pub cke_kept : r.cke ≡ 1
   unfolding ask rules every_rules
-  cke-kept = eqb-true _ _ (kept 11 0 (rules_of u s r) p)
+  cke_kept = eqb-true _ _ (kept 11 0 (rules_of u s r) p)
 
   -- 12
-  pub interval-kept : within s.core.period u.table.interval (now s.core r)
+  pub interval_kept : within s.core.period u.table.interval (now s.core r)
       (counted_refresh s.core.startup.refreshes) ≡ true
   unfolding ask rules every_rules
-  interval-kept = kept 12 0 (rules_of u s r) p
+  interval_kept = kept 12 0 (rules_of u s r) p
 
   -- 13
   pub open_kept : every (λ b. open_within s.core.period u.table.trasmax (now s.core r) b.status) s.banks ≡ true
@@ -95,55 +95,55 @@ module _ (u : Setup) (s : State) (r : Record) (p : ask u s r ≡ Taken) where
 
   -- ── Executable commands ──
 
-  command-kept : (n i : ℕ) → test n i (asked (executable (command r)) (command_rules_of u s r)) ≡ true
+  command_kept : (n i : ℕ) → test n i (asked (executable (command r)) (command_rules_of u s r)) ≡ true
       → (executable (command r) ⇒ test n i (command_rules_of u s r)) ≡ true
-  command-kept n i h = asked_kept n i (executable (command r)) (command_rules_of u s r) h
+  command_kept n i h = asked_kept n i (executable (command r)) (command_rules_of u s r) h
 
   -- 14
-  pub allowed-kept : (executable (command r) ⇒ allowed (command r) r (now s.core r) s.core.startup) ≡ true
+  pub allowed_kept : (executable (command r) ⇒ allowed (command r) r (now s.core r) s.core.startup) ≡ true
   unfolding ask rules every_rules command_rules place_rules
-  allowed-kept = command-kept 14 0 (kept 14 0 (rules_of u s r) p)
+  allowed_kept = command_kept 14 0 (kept 14 0 (rules_of u s r) p)
 
   -- 15
   pub banks_kept : banks_found (command r) r.ba s.banks ≡ true
   unfolding ask rules every_rules command_rules place_rules banks_found
   banks_kept =
-      of_all (λ k. banks_found k r.ba s.banks) refl refl (command r) (command-kept 15 0 (kept 15 0 (rules_of u s r) p))
+      of_all (λ k. banks_found k r.ba s.banks) refl refl (command r) (command_kept 15 0 (kept 15 0 (rules_of u s r) p))
 
   -- 16, of minimum i
-  pub minimum-kept : (i : ℕ)
+  pub minimum_kept : (i : ℕ)
       → (executable (command r)
       ⇒ test 16 i
       (minimum_rules u.table s.core.period (now s.core r)
       (minima (command r) s.core.period s.core.startup r s.banks)))
       ≡ true
   unfolding ask rules every_rules command_rules place_rules minimum_rules mode_rules bus_rules
-  minimum-kept i = command-kept 16 i (kept 16 i (rules_of u s r) p)
+  minimum_kept i = command_kept 16 i (kept 16 i (rules_of u s r) p)
 
   -- 17
-  pub mode-kept : (is (command r) LoadMode ⇒ legal (state_module s) r.addr && eqb r.ba 0) ≡ true
+  pub mode_kept : (is (command r) LoadMode ⇒ legal (state_module s) r.addr && eqb r.ba 0) ≡ true
   unfolding ask rules every_rules command_rules place_rules minimum_rules mode_rules
-  mode-kept =
+  mode_kept =
       of_all (λ k. is k LoadMode ⇒ legal (state_module s) r.addr && eqb r.ba 0) refl refl (command r)
-      (command-kept 17 0 (kept 17 0 (rules_of u s r) p))
+      (command_kept 17 0 (kept 17 0 (rules_of u s r) p))
 
   -- 18
-  pub tCK-kept : (is (command r) LoadMode ⇒ by (tCK u.table r.addr) s.core.period) ≡ true
+  pub tCK_kept : (is (command r) LoadMode ⇒ by (tCK u.table r.addr) s.core.period) ≡ true
   unfolding ask rules every_rules command_rules place_rules minimum_rules mode_rules
-  tCK-kept =
+  tCK_kept =
       of_all (λ k. is k LoadMode ⇒ by (tCK u.table r.addr) s.core.period) refl refl (command r)
-      (command-kept 18 0 (kept 18 0 (rules_of u s r) p))
+      (command_kept 18 0 (kept 18 0 (rules_of u s r) p))
 
   -- 19
-  pub finished-kept :
+  pub finished_kept :
       (access (command r) || is (command r) Terminate
       ⇒ bursts_finished s.core.bus.write s.core.bus.reads (clock_of s.core r)) ≡ true
   unfolding ask rules every_rules command_rules place_rules minimum_rules mode_rules bus_rules
-  finished-kept =
+  finished_kept =
       of_all
       (λ k. access k || is k Terminate
       ⇒ bursts_finished s.core.bus.write s.core.bus.reads (clock_of s.core r)) refl refl (command r)
-      (command-kept 19 0 (kept 19 0 (rules_of u s r) p))
+      (command_kept 19 0 (kept 19 0 (rules_of u s r) p))
 
   -- 20
   pub clear_kept :
@@ -153,14 +153,14 @@ module _ (u : Setup) (s : State) (r : Record) (p : ask u s r ≡ Taken) where
       of_all
       (λ k. is k Write ⇒ bus_clear s.core.last s.core.bus.masks s.core.bus.reads (clock_of s.core r)) refl refl
       (command r)
-      (command-kept 20 0 (kept 20 0 (rules_of u s r) p))
+      (command_kept 20 0 (kept 20 0 (rules_of u s r) p))
 
   -- 21
-  pub ends-kept : (asks_auto (command r) r ⇒ ends_by_itself (command r) (word s.core)) ≡ true
+  pub ends_kept : (asks_auto (command r) r ⇒ ends_by_itself (command r) (word s.core)) ≡ true
   unfolding ask rules every_rules command_rules place_rules minimum_rules mode_rules bus_rules
-  ends-kept =
+  ends_kept =
       of_all (λ k. asks_auto k r ⇒ ends_by_itself k (word s.core)) refl refl (command r)
-      (command-kept 21 0 (kept 21 0 (rules_of u s r) p))
+      (command_kept 21 0 (kept 21 0 (rules_of u s r) p))
 
   -- 22
   pub closes_kept :
@@ -176,4 +176,4 @@ module _ (u : Setup) (s : State) (r : Record) (p : ask u s r ≡ Taken) where
       ⇒ closes_within u.table s.core.period
       (burst_end k u.table s.core.period (word s.core) (clock_of s.core r))
       (bank_at s.banks r.ba).status)
-      refl refl (command r) (command-kept 22 0 (kept 22 0 (rules_of u s r) p))
+      refl refl (command r) (command_kept 22 0 (kept 22 0 (rules_of u s r) p))

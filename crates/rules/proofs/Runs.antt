@@ -67,13 +67,13 @@ abbrev pub page_next : State → Record → List ℕ → List ℕ
 page_next s r page = stored (state_module s) s.core.bank s.core.row r.dq (own_beat s r) page
 
 module _ (u : Setup) (s : State) (r : Record) (rs : List Record) (v : Run) where
-  pub page-on : (page : List ℕ) → page_left s (r ∷ rs) (with_line (line s r) v) page ≡ page_left (next u s r) rs v (page_next s r page)
+  pub page_on : (page : List ℕ) → page_left s (r ∷ rs) (with_line (line s r) v) page ≡ page_left (next u s r) rs v (page_next s r page)
   unfolding next core_after core_from page_after
-  page-on page = refl
+  page_on page = refl
 
-  pub state-on : state_left u s (r ∷ rs) (with_line (line s r) v) ≡ state_left u (next u s r) rs v
+  pub state_on : state_left u s (r ∷ rs) (with_line (line s r) v) ≡ state_left u (next u s r) rs v
   unfolding all_taken
-  state-on = refl
+  state_on = refl
 
   pub beat_on : (w : Beat) → last_beat w (with_line (line s r) v).lines ≡ last_beat (own_beat s r) v.lines
   beat_on w = refl

@@ -67,7 +67,7 @@ use Rattle.rules.specs.Admitted.{
   CoreOn,
   Admitted,
 }
-use Rattle.rules.proofs.Rows.{zeros-kept, clock-kept, mode-kept}
+use Rattle.rules.proofs.Rows.{zeros_kept, clock_kept, mode_kept}
 use Rattle.rules.proofs.Admitted.{bank_on_at}
 
 -- ── Small facts ──
@@ -142,25 +142,25 @@ module _ (P : Burst → Type 0) (n : Clock) (none : P no_burst) (cut : (x : Bool
   written_keeps [] f = tt
   written_keeps (b ∷ bs) f = (cond_keeps P (ltb b.start.0 n.0) no_burst b none f.0, written_keeps bs f.1)
 
-  room-keeps : (bs : List Burst) → Each P bs → Each P (with_room n bs)
-  room-keeps [] f = tt
-  room-keeps (b ∷ bs) f =
-      cond_keeps (Each P) (gives_way_first n b bs) bs (b ∷ with_room n bs) f.1 (f.0, room-keeps bs f.1)
+  room_keeps : (bs : List Burst) → Each P bs → Each P (with_room n bs)
+  room_keeps [] f = tt
+  room_keeps (b ∷ bs) f =
+      cond_keeps (Each P) (gives_way_first n b bs) bs (b ∷ with_room n bs) f.1 (f.0, room_keeps bs f.1)
 
-  cut-each-keeps : (k : Command) (addr ba : ℕ) (bs : List Burst) → Each P bs → Each P (cut_each k addr ba n bs)
-  cut-each-keeps k addr ba [] f = tt
-  cut-each-keeps k addr ba (b ∷ bs) f = (cut (ends k addr ba b.bank) b f.0, cut-each-keeps k addr ba bs f.1)
+  cut_each_keeps : (k : Command) (addr ba : ℕ) (bs : List Burst) → Each P bs → Each P (cut_each k addr ba n bs)
+  cut_each_keeps k addr ba [] f = tt
+  cut_each_keeps k addr ba (b ∷ bs) f = (cut (ends k addr ba b.bank) b f.0, cut_each_keeps k addr ba bs f.1)
 
-  bus-keeps : (k : Command) (r : Record) (word row : ℕ) (u : Bus) → P (burst_at word n r.addr r.column r.ba row) → EachBurst P u
+  bus_keeps : (k : Command) (r : Record) (word row : ℕ) (u : Bus) → P (burst_at word n r.addr r.column r.ba row) → EachBurst P u
       → EachBurst P (bus_after k r n word row u)
   unfolding bus_after reads_from
-  bus-keeps k r word row u new f =
-      let Cut-all = cut-each-keeps k r.addr r.ba in
+  bus_keeps k r word row u new f =
+      let Cut-all = cut_each_keeps k r.addr r.ba in
       record {
         write = cond_keeps P (is k Write) _ _ new (cut (ends k r.addr r.ba u.write.bank) u.write f.write);
         reads =
             cond_keeps (Each P) (is k Write) _ _ (written_keeps u.reads f.reads)
-            (cond_keeps (Each P) (is k Read) _ _ (new, Cut-all (with_room n u.reads) (room-keeps u.reads f.reads))
+            (cond_keeps (Each P) (is k Read) _ _ (new, Cut-all (with_room n u.reads) (room_keeps u.reads f.reads))
             (Cut-all u.reads f.reads));
       }
 
@@ -179,134 +179,134 @@ pub record Entered (u : Setup) (c : Core) (r : Record) : Type 0 where
   pub number : c.number < number_max
 
 module _ (u : Setup) (s : State) (r : Record) (g : Entered u s.core r) (a : Admitted s) (p : ask u s r ≡ Taken) where
-  n-fits : (clock_of s.core r).0 ≤ clock_max
-  n-fits = clock-kept u s r p
+  n_fits : (clock_of s.core r).0 ≤ clock_max
+  n_fits = clock_kept u s r p
 
-  abbrev n-at : Clock
-  n-at = clock_of s.core r
+  abbrev n_at : Clock
+  n_at = clock_of s.core r
 
-  abbrev m-at : Module
-  m-at = state_module s
+  abbrev m_at : Module
+  m_at = state_module s
 
-  new-fits : FitBurst (burst_at (word s.core) n-at r.addr r.column r.ba (own_row s r))
-  new-fits = record { start = n-fits; cut = tt }
+  new_fits : FitBurst (burst_at (word s.core) n_at r.addr r.column r.ba (own_row s r))
+  new_fits = record { start = n_fits; cut = tt }
 
-  new-on : BurstOn m-at (burst_at (word s.core) n-at r.addr r.column r.ba (own_row s r))
-  new-on =
+  new_on : BurstOn m_at (burst_at (word s.core) n_at r.addr r.column r.ba (own_row s r))
+  new_on =
       record {
         bank = g.widths.ba;
-        row = row_on m-at (bank_at s.banks r.ba).status (bank_on_at m-at s.banks r.ba a.places.banks);
+        row = row_on m_at (bank_at s.banks r.ba).status (bank_on_at m_at s.banks r.ba a.places.banks);
         column = g.place.column;
-        word = word_on m-at s.core.startup.register a.places.core.register;
+        word = word_on m_at s.core.startup.register a.places.core.register;
       }
 
-  startup-fits-after : FitStartUp (startup_after (command r) r n-at s.core.startup)
+  startup_fits_after : FitStartUp (startup_after (command r) r n_at s.core.startup)
   unfolding startup_after
-  startup-fits-after =
+  startup_fits_after =
       let u = s.core.startup in
       let f = a.core.startup in
       record {
-        allclosed = cond_keeps FitEvent (precharge_all (command r) r) (On n-at) u.allclosed n-fits f.allclosed;
-        refreshed = refreshes_fit (is (command r) Refresh) n-at u.refreshes n-fits f.refreshed;
-        register = cond_keeps FitRegister (is (command r) LoadMode) (Loaded r.addr n-at) u.register n-fits f.register;
+        allclosed = cond_keeps FitEvent (precharge_all (command r) r) (On n_at) u.allclosed n_fits f.allclosed;
+        refreshed = refreshes_fit (is (command r) Refresh) n_at u.refreshes n_fits f.refreshed;
+        register = cond_keeps FitRegister (is (command r) LoadMode) (Loaded r.addr n_at) u.register n_fits f.register;
       }
 
   -- what a cut keeps, and holds of no burst and of the record's own, holds of each burst of the bus that the record leaves
-  bus-left : (P : Burst → Type 0) → P no_burst → ((x : Bool) (b : Burst) → P b → P (cut_if x n-at b))
-      → P (burst_at (word s.core) n-at r.addr r.column r.ba (own_row s r)) → EachBurst P s.core.bus
-      → EachBurst P (bus_after (command r) r n-at (word s.core) (own_row s r) s.core.bus)
-  bus-left P none cut new = bus-keeps P n-at none cut (command r) r (word s.core) (own_row s r) s.core.bus new
+  bus_left : (P : Burst → Type 0) → P no_burst → ((x : Bool) (b : Burst) → P b → P (cut_if x n_at b))
+      → P (burst_at (word s.core) n_at r.addr r.column r.ba (own_row s r)) → EachBurst P s.core.bus
+      → EachBurst P (bus_after (command r) r n_at (word s.core) (own_row s r) s.core.bus)
+  bus_left P none cut new = bus_keeps P n_at none cut (command r) r (word s.core) (own_row s r) s.core.bus new
 
-  core-fits-after : FitCore (core_after s.core r (own_row s r))
+  core_fits_after : FitCore (core_after s.core r (own_row s r))
   unfolding core_after core_from
-  core-fits-after =
+  core_fits_after =
       record {
         number = omega (arith, g.number);
-        last = n-fits;
-        startup = startup-fits-after;
-        bus = bus-left FitBurst no_burst_fits (cut_fits n-at n-fits) new-fits a.core.bus;
+        last = n_fits;
+        startup = startup_fits_after;
+        bus = bus_left FitBurst no_burst_fits (cut_fits n_at n_fits) new_fits a.core.bus;
       }
 
-  core-on-after : CoreOn m-at (core_after s.core r (own_row s r))
+  core_on_after : CoreOn m_at (core_after s.core r (own_row s r))
   unfolding core_after core_from startup_after
-  core-on-after =
+  core_on_after =
       record {
         bank = a.places.core.bank;
         row = a.places.core.row;
         register =
-            register_on_after m-at (is (command r) LoadMode) r.addr (eqb r.ba 0) n-at s.core.startup.register (mode-kept u s r p)
+            register_on_after m_at (is (command r) LoadMode) r.addr (eqb r.ba 0) n_at s.core.startup.register (mode_kept u s r p)
             a.places.core.register;
-        bus = bus-left (BurstOn m-at) (no_burst_on m-at) (cut_stays_on m-at n-at) new-on a.places.core.bus;
+        bus = bus_left (BurstOn m_at) (no_burst_on m_at) (cut_stays_on m_at n_at) new_on a.places.core.bus;
       }
 
   -- a clock within 4,096 of the last possible lasts less than 2^57
-  ps-fits : (x : ℕ) → x ≤ clock_max + 4096 → x * s.core.period.0 ≤ 2 ^ 57
-  ps-fits x h = le_trans (mul-le-mul h g.period) (omega arith)
+  ps_fits : (x : ℕ) → x ≤ clock_max + 4096 → x * s.core.period.0 ≤ 2 ^ 57
+  ps_fits x h = le_trans (mul-le-mul h g.period) (omega arith)
 
-  now-fits : (now s.core r).0 ≤ 2 ^ 57
-  now-fits = ps-fits n-at.0 (omega (arith, n-fits))
+  now_fits : (now s.core r).0 ≤ 2 ^ 57
+  now_fits = ps_fits n_at.0 (omega (arith, n_fits))
 
   -- the end of a burst that the record begins
-  abbrev end-at : Command → Ps
-  end-at k = burst_end k u.table s.core.period (word s.core) n-at
+  abbrev end_at : Command → Ps
+  end_at k = burst_end k u.table s.core.period (word s.core) n_at
 
-  end_fits : (k : Command) → (end-at k).0 ≤ 2 ^ 57 + 200_000_000
+  end_fits : (k : Command) → (end_at k).0 ≤ 2 ^ 57 + 200_000_000
   end_fits k =
-      let n = n-at.0 in
+      let n = n_at.0 in
       let w = word s.core in
       cond_keeps (λ (x : Ps). x.0 ≤ 2 ^ 57 + 200_000_000) (is k Write) _ _
-      (omega (arith, ps-fits (n + write_length w) (omega (arith, n-fits, write_length_le w)), g.addition, g.period))
-      (omega (arith, ps-fits (n + length_of w) (omega (arith, n-fits, length_le w))))
+      (omega (arith, ps_fits (n + write_length w) (omega (arith, n_fits, write_length_le w)), g.addition, g.period))
+      (omega (arith, ps_fits (n + length_of w) (omega (arith, n_fits, length_le w))))
 
-  auto-fits : (k : Command) (x : Status) → FitStatus x → FitStatus (auto_closed u.table s.core.period (end-at k) x)
-  auto-fits k NotStarted h = tt
-  auto-fits k (Open row n) h = omega (arith, end_fits k, ps-fits n.0 (omega arith), g.trasmin)
-  auto-fits k (Closed x) h = h
+  auto_fits : (k : Command) (x : Status) → FitStatus x → FitStatus (auto_closed u.table s.core.period (end_at k) x)
+  auto_fits k NotStarted h = tt
+  auto_fits k (Open row n) h = omega (arith, end_fits k, ps_fits n.0 (omega arith), g.trasmin)
+  auto_fits k (Closed x) h = h
 
-  precharged-fits : (again : Bool) (x : Status) → FitStatus x → FitStatus (precharged again (now s.core r) x)
-  precharged-fits again NotStarted h = omega (arith, now-fits)
-  precharged-fits again (Open row n) h = omega (arith, now-fits)
-  precharged-fits true (Closed y) h = h
-  precharged-fits false (Closed y) h = omega (arith, now-fits)
+  precharged_fits : (again : Bool) (x : Status) → FitStatus x → FitStatus (precharged again (now s.core r) x)
+  precharged_fits again NotStarted h = omega (arith, now_fits)
+  precharged_fits again (Open row n) h = omega (arith, now_fits)
+  precharged_fits true (Closed y) h = h
+  precharged_fits false (Closed y) h = omega (arith, now_fits)
 
   -- the bank with number i after this command
   abbrev after : Command → ℕ → Bank → Bank
-  after k = bank_after k u.table s.core.period (end-at k) (begun s.core.startup) r n-at (now s.core r)
+  after k = bank_after k u.table s.core.period (end_at k) (begun s.core.startup) r n_at (now s.core r)
 
-  bank-fits-after : (k : Command) (i : ℕ) (b : Bank) → FitBank b → FitBank (after k i b)
+  bank_fits_after : (k : Command) (i : ℕ) (b : Bank) → FitBank b → FitBank (after k i b)
   unfolding bank_after
-  bank-fits-after k i b h =
-      cond_keeps FitBank (is k Active && eqb i r.ba) _ _ (record { status = n-fits; active = n-fits; stored = tt })
-      (cond_keeps FitBank (asks_auto k r && eqb i r.ba) _ _ (record { status = auto-fits k b.status h.status; active = h.active; stored = h.stored })
+  bank_fits_after k i b h =
+      cond_keeps FitBank (is k Active && eqb i r.ba) _ _ (record { status = n_fits; active = n_fits; stored = tt })
+      (cond_keeps FitBank (asks_auto k r && eqb i r.ba) _ _ (record { status = auto_fits k b.status h.status; active = h.active; stored = h.stored })
       (cond_keeps FitBank (is k Precharge && covers r.addr r.ba i) _ _
-      (record { status = precharged-fits (begun s.core.startup) b.status h.status; active = h.active; stored = h.stored }) h))
+      (record { status = precharged_fits (begun s.core.startup) b.status h.status; active = h.active; stored = h.stored }) h))
 
-  auto-on : (period end : Ps) (x : Status) → StatusOn m-at (auto_closed u.table period end x)
-  auto-on period end NotStarted = tt
-  auto-on period end (Open row n) = tt
-  auto-on period end (Closed x) = tt
+  auto_on : (period end : Ps) (x : Status) → StatusOn m_at (auto_closed u.table period end x)
+  auto_on period end NotStarted = tt
+  auto_on period end (Open row n) = tt
+  auto_on period end (Closed x) = tt
 
-  precharged-on : (again : Bool) (moment : Ps) (x : Status) → StatusOn m-at (precharged again moment x)
-  precharged-on again moment NotStarted = tt
-  precharged-on again moment (Open row n) = tt
-  precharged-on again moment (Closed x) = tt
+  precharged_on : (again : Bool) (moment : Ps) (x : Status) → StatusOn m_at (precharged again moment x)
+  precharged_on again moment NotStarted = tt
+  precharged_on again moment (Open row n) = tt
+  precharged_on again moment (Closed x) = tt
 
-  bank-on-after : (k : Command) (i : ℕ) (b : Bank) → BankOn m-at b → BankOn m-at (after k i b)
+  bank_on_after : (k : Command) (i : ℕ) (b : Bank) → BankOn m_at b → BankOn m_at (after k i b)
   unfolding bank_after
-  bank-on-after k i b h =
-      cond_keeps (BankOn m-at) (is k Active && eqb i r.ba) _ _ (g.place.row (zeros-kept u s r p))
-      (cond_keeps (BankOn m-at) (asks_auto k r && eqb i r.ba) _ _ (auto-on _ _ b.status)
-      (cond_keeps (BankOn m-at) (is k Precharge && covers r.addr r.ba i) _ _ (precharged-on (begun s.core.startup) _ b.status) h))
+  bank_on_after k i b h =
+      cond_keeps (BankOn m_at) (is k Active && eqb i r.ba) _ _ (g.place.row (zeros_kept u s r p))
+      (cond_keeps (BankOn m_at) (asks_auto k r && eqb i r.ba) _ _ (auto_on _ _ b.status)
+      (cond_keeps (BankOn m_at) (is k Precharge && covers r.addr r.ba i) _ _ (precharged_on (begun s.core.startup) _ b.status) h))
 
-  marked-fits : (x : Bool) (b : Bank) → FitBank b → FitBank (marked x n-at b)
-  marked-fits x b h = record { status = h.status; active = h.active; stored = cond_keeps FitEvent x (On n-at) b.stored n-fits h.stored }
+  marked_fits : (x : Bool) (b : Bank) → FitBank b → FitBank (marked x n_at b)
+  marked_fits x b h = record { status = h.status; active = h.active; stored = cond_keeps FitEvent x (On n_at) b.stored n_fits h.stored }
 
   -- what a command and a mark keep holds of each bank that the record leaves
-  banks-keep : (P : Bank → Type 0) → ((i : ℕ) (b : Bank) → P b → P (after (command r) i b))
-      → ((x : Bool) (b : Bank) → P b → P (marked x n-at b)) → Each P s.banks → Each P (next u s r).banks
+  banks_keep : (P : Bank → Type 0) → ((i : ℕ) (b : Bank) → P b → P (after (command r) i b))
+      → ((x : Bool) (b : Bank) → P b → P (marked x n_at b)) → Each P s.banks → Each P (next u s r).banks
   unfolding next banks_after mark_banks commanded
-  banks-keep P moved mark h =
-      banks_each P (λ i b. marked (stores_in (own_beat s r) i) n-at b) (λ i b. mark (stores_in (own_beat s r) i) b) 0
+  banks_keep P moved mark h =
+      banks_each P (λ i b. marked (stores_in (own_beat s r) i) n_at b) (λ i b. mark (stores_in (own_beat s r) i) b) 0
       (each_bank (after (command r)) 0 s.banks) (banks_each P (after (command r)) moved 0 s.banks h)
 
   -- THE STATE BESIDE A TAKEN RECORD IS ADMITTED
@@ -314,9 +314,9 @@ module _ (u : Setup) (s : State) (r : Record) (g : Entered u s.core r) (a : Admi
   unfolding next core_after core_from
   stays =
       record {
-        core = core-fits-after;
-        banks = banks-keep FitBank (bank-fits-after (command r)) marked-fits a.banks;
-        places = record { core = core-on-after; banks = banks-keep (BankOn m-at) (bank-on-after (command r)) (λ x b h. h) a.places.banks };
+        core = core_fits_after;
+        banks = banks_keep FitBank (bank_fits_after (command r)) marked_fits a.banks;
+        places = record { core = core_on_after; banks = banks_keep (BankOn m_at) (bank_on_after (command r)) (λ x b h. h) a.places.banks };
       }
 
 -- the next record stands on a later clock

@@ -1,11 +1,10 @@
 -- A table that number 6 passes has its bounds. Assumes nothing.
-use Prim.Native.Nat.{ℕ, ◌≤◌}
 use mathlib.Core.Path.{◌≡◌}
 use mathlib.Core.Bool.{true}
 use borrow.Author.Tests.{leb-true}
 use Rattle.units.proofs.Both.{both}
 use Rattle.speed.specs.declared.SpeedTable.{SpeedTable}
-use Rattle.speed.specs.Table.{time_max, tmrd_max, table_fits}
+use Rattle.speed.specs.Table.{table_fits}
 use Rattle.speed.specs.Bounds.{Bounds}
 
 pub bounds : (t : SpeedTable) → table_fits t ≡ true → Bounds t

@@ -1,5 +1,5 @@
 -- The bounds of a table that number 6 passes, as facts. Definitions only.
-use Rattle.std.specs.Prelude.{ℕ, ◌≤◌}
+use Rattle.std.specs.Prelude.{◌≤◌}
 use Rattle.speed.specs.declared.SpeedTable.{SpeedTable}
 use Rattle.speed.specs.Table.{time_max, tmrd_max}
 

@@ -27,7 +27,7 @@ each_same f i [] h = refl
 each_same f i (b ∷ l) h = rw (h i b, each_same f (ℕ.suc i) l h)
 
 module _ (k : Command) (t : SpeedTable) (period end : Ps) (again : Bool) (r : Record) (n : Clock) (moment : Ps) where
-  pub commanded-four : (l : List Bank) → length l ≡ 4
+  pub commanded_four : (l : List Bank) → length l ≡ 4
       → commanded k t period end again r n moment l
       ≡ (bank_after k t period end again r n moment 0 (bank_at l 0)
       ∷ bank_after k t period end again r n moment 1 (bank_at l 1)
@@ -35,7 +35,7 @@ module _ (k : Command) (t : SpeedTable) (period end : Ps) (again : Bool) (r : Re
       ∷ bank_after k t period end again r n moment 3 (bank_at l 3)
       ∷ [])
   unfolding commanded
-  commanded-four l h = each_four (bank_after k t period end again r n moment) l h
+  commanded_four l h = each_four (bank_after k t period end again r n moment) l h
 
   pub untouched : (is k Active || (asks_auto k r || is k Precharge)) ≡ false → (l : List Bank) → commanded k t period end again r n moment l ≡ l
   unfolding commanded bank_after

@@ -49,8 +49,8 @@ module _ (a b : List ℕ) (i : ℕ) (h : i < length a) (e : length a ≡ length 
   one_same q = split ∙ rw (eq-eqb _ _ q, add-one i)
 
   -- number i is not
-  pub one-other : (get_or a i 0 ≡ get_or b i 0 → ⊥) → same (drop i a) (drop i b) ≡ false
-  one-other q = split ∙ rw (ne_eqb _ _ q)
+  pub one_other : (get_or a i 0 ≡ get_or b i 0 → ⊥) → same (drop i a) (drop i b) ≡ false
+  one_other q = split ∙ rw (ne_eqb _ _ q)
 
 -- all were the same
 pub none_left : (a b : List ℕ) (i : ℕ) → length a ≤ i → length a ≡ length b → same (drop i a) (drop i b) ≡ true

@@ -60,7 +60,7 @@ use Rattle.words.specs.Words.{
 }
 use Rattle.words.specs.Narrow.{NarrowBurst, NarrowMasks, NarrowRegister, NarrowStatus, NarrowBank, Narrow}
 use Rattle.words.proofs.Equal.{same_is, same_self}
-use Rattle.words.proofs.Stores.{words-length}
+use Rattle.words.proofs.Stores.{words_length}
 
 -- ── One number ──
 
@@ -150,12 +150,12 @@ with s rs bs =
     }
 
 module _ (s : State) (a b c d : Burst) (w x y z : Bank) where
-  abbrev four-state : State
-  four-state = with s (a ∷ b ∷ c ∷ d ∷ []) (w ∷ x ∷ y ∷ z ∷ [])
+  abbrev four_state : State
+  four_state = with s (a ∷ b ∷ c ∷ d ∷ []) (w ∷ x ∷ y ∷ z ∷ [])
 
-  state-again : Narrow four-state → state_in (words_of four-state) ≡ four-state
+  state_again : Narrow four_state → state_in (words_of four_state) ≡ four_state
   unfolding state_in core_in bus_in masks_in startup_in refreshes_in register_in burst_in bank_in status_in event_in words_of
-  state-again h j =
+  state_again h j =
       record {
         core =
             record {
@@ -212,7 +212,7 @@ pub read_back : (s : State) → Narrow s → state_in (words_of s) ≡ s
 read_back s h =
     by_four (λ (rs : List Burst). Back (with s rs s.banks))
     (λ a b c d. by_four (λ (bs : List Bank). Back (with s (a ∷ b ∷ c ∷ d ∷ []) bs))
-    (λ w x y z. state-again s a b c d w x y z) s.banks h.four_banks)
+    (λ w x y z. state_again s a b c d w x y z) s.banks h.four_banks)
     s.core.bus.reads h.four_reads h
   where
     Back : State → Type 0
@@ -222,7 +222,7 @@ read_back s h =
 pub held : (s : State) → Narrow s → holds (words_of s) ≡ true
 unfolding holds
 held s h =
-    joined (eq-eqb _ _ (words-length s h.four_reads h.four_banks))
+    joined (eq-eqb _ _ (words_length s h.four_reads h.four_banks))
     (ap (λ (x : State). same (words_of s) (words_of x)) (read_back s h) ∙ same_self (words_of s))
 
 -- words that hold a state are that state's: there is one way to write it

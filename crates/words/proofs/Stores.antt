@@ -117,30 +117,30 @@ banks_stored l bs e h0 h1 h2 h3 =
     after at i x = sets x at (bank_numbers (bank_at bs i))
 
 module _ (s : State) (e : length s.core.bus.reads ≡ 4) where
-  abbrev head-list : List ℕ
-  head-list = head_numbers s.core
+  abbrev head_list : List ℕ
+  head_list = head_numbers s.core
 
-  abbrev bus-list : List ℕ
-  bus-list = bus_numbers s.core.bus
+  abbrev bus_list : List ℕ
+  bus_list = bus_numbers s.core.bus
 
-  abbrev banks-list : List ℕ
-  banks-list = banks_numbers s.banks
+  abbrev banks_list : List ℕ
+  banks_list = banks_numbers s.banks
 
-  pub state-stored : (l : List ℕ) {m n o : List ℕ}
+  pub state_stored : (l : List ℕ) {m n o : List ℕ}
       → m ≡ sets l 0 (head_numbers s.core) → n ≡ sets m 14 (bus_numbers s.core.bus)
       → o ≡ sets n 62 (banks_numbers s.banks) → o ≡ put_words (words_of s) l
   unfolding words_of
-  state-stored l h0 h1 h2 =
+  state_stored l h0 h1 h2 =
       h2
-      ∙ ap (λ (x : List ℕ). sets x 62 banks-list) (h1 ∙ ap (λ (x : List ℕ). sets x 14 bus-list) h0)
-      ∙ stored_after bus-list banks-list (sets l 0 head-list) 14 62 (ap (λ (n : ℕ). 14 + n) (bus_length s.core.bus e))
-      ∙ stored_after head-list (bus-list ++ banks-list) l 0 14 refl
-      ∙ stored_is_put (head-list ++ (bus-list ++ banks-list)) l
+      ∙ ap (λ (x : List ℕ). sets x 62 banks_list) (h1 ∙ ap (λ (x : List ℕ). sets x 14 bus_list) h0)
+      ∙ stored_after bus_list banks_list (sets l 0 head_list) 14 62 (ap (λ (n : ℕ). 14 + n) (bus_length s.core.bus e))
+      ∙ stored_after head_list (bus_list ++ banks_list) l 0 14 refl
+      ∙ stored_is_put (head_list ++ (bus_list ++ banks_list)) l
 
   -- a state of four READs and four banks has 94 numbers
-  pub words-length : length s.banks ≡ 4 → length (words_of s) ≡ state_words
+  pub words_length : length s.banks ≡ 4 → length (words_of s) ≡ state_words
   unfolding words_of
-  words-length f =
-      length-append head-list (bus-list ++ banks-list)
+  words_length f =
+      length-append head_list (bus_list ++ banks_list)
       ∙ ap (λ (n : ℕ). 14 + n)
-      (length-append bus-list banks-list ∙ (λ j. bus_length s.core.bus e j + banks_length s.banks f j))
+      (length-append bus_list banks_list ∙ (λ j. bus_length s.core.bus e j + banks_length s.banks f j))

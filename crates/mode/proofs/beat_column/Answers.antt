@@ -1,7 +1,5 @@
--- carried over
-use native.Mathlib.Nat.{add-mod-mod, mod-le}
+-- `mode::beat_column` meets its contract: full page by the sum modulo the columns, else the block and the place in it.
 use borrow.Author.Rules.{rules}
-use Rattle.mode.specs.Order.{beat_column}
 use Rattle.mode.proofs.Length.{column_fits}
 use Rattle.mode.proofs.beat_column.Goals as goal
 

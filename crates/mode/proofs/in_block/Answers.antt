@@ -1,6 +1,5 @@
--- carried over
+-- `mode::in_block` meets its contract: the rule; a beat number modulo the length leaves the sum modulo the length.
 use native.Mathlib.Nat.{add-mod-mod}
-use borrow.Author.Rules.{rules}
 use Rattle.mode.proofs.in_block.Goals as goal
 
 pub returns : goal.returns
