@@ -1,7 +1,7 @@
 -- Recursions on the four READ bursts, as the code writes them out. Assumes nothing.
 use Prim.Native.Nat.{ℕ}
 use native.Mathlib.Omega.{arith}
-use mathlib.Core.Path.{◌≡◌, refl, ap, sym, ◌∙◌}
+use mathlib.Core.Path.{◌≡◌, refl, ap, ◌∙◌}
 use mathlib.Core.Bool.{Bool, true, false, not, ◌&&◌, ◌||◌, cond, and-true, or-false}
 use mathlib.Core.List.{List, [], ◌∷◌}
 use lib.Dec.{ltb}

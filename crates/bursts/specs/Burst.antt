@@ -4,7 +4,6 @@ use Rattle.units.specs.declared.Clock.{Clock}
 use Rattle.units.specs.declared.Event.{Event}
 use Rattle.units.specs.declared.Event.TheVariants.{Never, On}
 use Rattle.units.specs.Time.{clock}
-use Rattle.layout.specs.declared.Record.{Record}
 use Rattle.layout.specs.declared.Command.{Command}
 use Rattle.layout.specs.declared.Command.TheVariants.{Terminate, Precharge}
 use Rattle.layout.specs.Commands.{is, access, a10_of, covers}

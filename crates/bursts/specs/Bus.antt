@@ -1,5 +1,5 @@
 -- The data bus: all bursts and the masks, the beat on a clock, numbers 19 and 20 (01, Beats). Definitions only.
-use Rattle.std.specs.Prelude.{ℕ, ◌+◌, ◌-◌, Bool, true, false, not, ◌&&◌, ◌||◌, cond, List, [], ◌∷◌, leb, ltb, eqb, get_or}
+use Rattle.std.specs.Prelude.{ℕ, ◌-◌, Bool, true, false, not, ◌&&◌, ◌||◌, cond, List, [], ◌∷◌, leb, ltb, eqb, get_or}
 use Rattle.units.specs.declared.Clock.{Clock}
 use Rattle.units.specs.declared.Event.{Event}
 use Rattle.units.specs.declared.Event.TheVariants.{Never, On}
@@ -12,7 +12,6 @@ use Rattle.mode.specs.Word.{length_of, write_length}
 use Rattle.bursts.specs.declared.Burst.{Burst}
 use Rattle.bursts.specs.declared.Masks.{Masks}
 use Rattle.bursts.specs.declared.Bus.{Bus}
-use Rattle.bursts.specs.declared.Cells.{Cells}
 use Rattle.bursts.specs.declared.Beat.{Beat}
 use Rattle.bursts.specs.declared.Beat.TheVariants.{Quiet, Stores, Drives}
 use Rattle.bursts.specs.Burst.{no_burst, burst_at, cut_by, write_beat, reads_on, to_come, read_beat, finished}

@@ -1,7 +1,6 @@
 -- Bursts and the bus one sentence at a time: rows from the sentences of document 01's Beats, under one statement. Words in quotation
 -- marks are 01's, or those of reading 13 in docs/DECISIONS.md. Assumes nothing.
-use Rattle.std.specs.Prelude.{ℕ, zero, suc, ◌+◌, ◌≡◌, refl, Bool, true, false, List, [], ◌∷◌, ◌++◌, replicate}
-use Rattle.units.specs.declared.Clock.{Clock}
+use Rattle.std.specs.Prelude.{ℕ, zero, suc, ◌≡◌, refl, Bool, true, false, List, [], ◌∷◌, ◌++◌, replicate}
 use Rattle.units.specs.declared.Event.{Event}
 use Rattle.units.specs.declared.Event.TheVariants.{Never, On}
 use Rattle.units.specs.Time.{clock}
@@ -24,7 +23,6 @@ use Rattle.mode.specs.Order.{beat_column}
 use Rattle.bursts.specs.declared.Burst.{Burst}
 use Rattle.bursts.specs.declared.Masks.{Masks}
 use Rattle.bursts.specs.declared.Bus.{Bus}
-use Rattle.bursts.specs.declared.Cells.{Cells}
 use Rattle.bursts.specs.declared.Beat.{Beat}
 use Rattle.bursts.specs.declared.Beat.TheVariants.{Quiet, Stores, Drives}
 use Rattle.bursts.specs.Burst.{
@@ -42,34 +40,7 @@ use Rattle.bursts.specs.Burst.{
   read_beat,
   finished,
 }
-use Rattle.bursts.specs.Bus.{
-  masks_on,
-  two_before,
-  one_before,
-  masks_after,
-  all_masks_high,
-  or_else,
-  reads_run,
-  later_run,
-  reads_beat,
-  no_reads,
-  cut_each,
-  written_over,
-  gives_way,
-  with_room,
-  reads_from,
-  reads_after,
-  write_after,
-  bus_after,
-  beat_on,
-  reads_finished,
-  bursts_finished,
-  drives_lane,
-  driven,
-  bus_clear,
-  stores_in,
-  quiet_bus,
-}
+use Rattle.bursts.specs.Bus.{masks_on, two_before, one_before, masks_after, all_masks_high, or_else, reads_run, later_run, reads_beat, no_reads, cut_each, written_over, with_room, reads_from, reads_after, write_after, bus_after, beat_on, reads_finished, bursts_finished, drives_lane, driven, bus_clear, stores_in, quiet_bus}
 
 -- ── A row: what the definition gives, and what document 01 says ──
 

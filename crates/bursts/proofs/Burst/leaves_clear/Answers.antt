@@ -1,5 +1,4 @@
 -- `bursts::Burst::leaves_clear` meets its contract: a beat on either clock, none on both, and none looked for.
-use borrow.Author.Rules.{rules}
 use Rattle.bursts.proofs.Running.{clear_unasked}
 use Rattle.bursts.proofs.Burst.leaves_clear.Goals as goal
 

@@ -1,9 +1,8 @@
 -- `bursts::Burst::read_beat` meets its contract: a beat that was fetched since the registration, or none.
 use native.Mathlib.Omega.{arith}
 use mathlib.Core.Path.{sym, ◌∙◌}
-use borrow.Author.Rules.{rules}
 use Rattle.bursts.specs.Burst.{read_beat}
-use Rattle.bursts.proofs.HasBeat.{fetched_late, fetched_since}
+use Rattle.bursts.proofs.HasBeat.{fetched_since}
 use Rattle.bursts.proofs.Burst.read_beat.Goals as goal
 
 pub overflow_sub-i-then-reads_on : goal.overflow_sub-i-then-reads_on

@@ -1,7 +1,6 @@
 -- `bursts::Burst::to_come` meets its contract: no burst, and else the first fetch that is seen on clock n or later.
 use mathlib.Core.Path.{sym}
 use borrow.Author.Tests.{not-true}
-use borrow.Author.Rules.{rules}
 use Rattle.bursts.proofs.HasBeat.{none_where_no_burst}
 use Rattle.bursts.proofs.Burst.to_come.Goals as goal
 
