@@ -21,6 +21,7 @@ pub fn write_after(k: Command, r: Record, n: Clock, word: u16, row: u16, b: Burs
 }
 
 // The bus after command k of record r on clock n, in mode `word`, of the open row.
+#[tactic(auto, unfolding(bursts::specs::Bus::bus_after))]
 pub fn bus_after(k: Command, r: Record, n: Clock, word: u16, row: u16, u: Bus) -> Bus
     ensures { result ≡ bus_after k r n word row u }
 {
@@ -39,6 +40,7 @@ pub fn bus_after(k: Command, r: Record, n: Clock, word: u16, row: u16, u: Bus) -
 
 // "The beat on its own clock", n, of a record with these masks, from the bursts that it leaves. A WRITE's lanes hang on
 // the record's own masks, a READ's on those of two clocks before.
+#[tactic(auto, unfolding(bursts::specs::Bus::beat_on))]
 pub fn beat_on(
     last: Event,
     old: Masks,
@@ -58,6 +60,7 @@ pub fn beat_on(
 
 // Number 19: no auto precharge burst is unfinished on clock n. A WRITE with M9 = 1 has length 1; the length
 // is worked out only where the WRITE asks auto precharge.
+#[tactic(auto, unfolding(bursts::specs::Bus::bursts_finished))]
 pub fn bursts_finished(write: Burst, reads: [Burst; 4], n: Clock) -> bool
     ensures { result ≡ bursts_finished write reads n }
 {
@@ -79,6 +82,7 @@ pub fn one_before(n: Clock) -> Clock
 
 // Number 20: no lane "would be driven on its clock, or is driven one clock before" (004's extra clock form). The masks of
 // both clocks come first: where they are all HIGH no READ drives a lane, and none is looked at.
+#[tactic(auto, unfolding(bursts::specs::Bus::bus_clear))]
 pub fn bus_clear(last: Event, old: Masks, reads: [Burst; 4], n: Clock) -> bool
     ensures { result ≡ bus_clear last old reads n }
 {

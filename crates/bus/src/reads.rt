@@ -49,6 +49,7 @@ fn latest(a: bool, b: bool, c: bool, d: bool, w: u64, x: u64, y: u64, z: u64) ->
 
 // The beat of the READ bursts on clock n: of those that run, the one registered last. Most records find none that runs, and
 // the masks of two clocks before are looked up only where one does.
+#[tactic(auto, unfolding(bursts::specs::Bus::masks_on))]
 pub fn reads_beat(last: Event, old: Masks, bs: [Burst; 4], n: Clock) -> Beat
     ensures { result ≡ reads_beat bs (masks_on last old (two_before n)) n }
 {

@@ -1,5 +1,5 @@
 -- What a beat stores in the page of the watched bank and row (01, Trace layout and Beats). Definitions only.
-use Rattle.std.specs.Prelude.{ℕ, zero, suc, ◌+◌, ◌*◌, ◌/◌, ◌%◌, Bool, ◌&&◌, cond, List, eqb, set}
+use Rattle.std.specs.Prelude.{ℕ, zero, suc, ◌+◌, ◌*◌, ◌/◌, ◌%◌, ◌&&◌, cond, List, eqb, set}
 use Rattle.units.specs.declared.Module.{Module}
 use Rattle.units.specs.Module.{lanes}
 use Rattle.bursts.specs.declared.Cells.{Cells}

@@ -1,5 +1,6 @@
 // Stores into the lent page of the watched bank and row.
 #![tactic(auto)]
+
 ghost use Rattle.std.specs.Prelude.{◌≡◌, cond, ◌%◌, eqb, set};
 ghost use Rattle.page.specs.Store.{put_cells, stored};
 
@@ -38,6 +39,7 @@ pub fn put_cells(m: Module, c: Cells, dq: u64, page: &mut [u8])
 
 // What a beat leaves in the page of the watched bank and row: "Lanes with DQMB LOW on that clock are stored", where the
 // beat is a WRITE's and for this bank and row. A READ's beat, and none, leave it.
+#[tactic(auto, unfolding(crate::specs::Store::stored))]
 pub fn stored(m: Module, bank: u8, row: u16, dq: u64, beat: Beat, page: &mut [u8])
     ensures { page.new ≡ stored m bank row dq beat page.old }
 {

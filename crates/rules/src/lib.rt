@@ -1,5 +1,6 @@
 // Document 01's rules: the state that they speak of, and the answers that they give. The rules themselves are in specs/.
 #![tactic(auto)]
+
 ghost use Rattle.std.specs.Prelude.{◌≡◌};
 ghost use Rattle.rules.specs.Numbers.{number_of, interval_of};
 ghost use Rattle.rules.specs.OneRecord.{period_fits, grade_known};
