@@ -37,8 +37,8 @@ def is_library(path):
 
 
 def declared(path):
-    """The names that a file of definitions or lemmas declares, those below a line `module _ .. where` too, and the fields of its records."""
-    inside = below = False
+    """The names that a file of definitions or lemmas declares, those within others too, and the fields of its records."""
+    inside = False
     for line in text_of(path).splitlines():
         if not line.strip():
             continue
@@ -46,11 +46,10 @@ def declared(path):
             field = re.match(r"^\s+(?:pub )?([^\s:(){}]+)\s*:", line)
             if inside and field:
                 yield field.group(1)
-            lemma = re.match(r"^  (?:unfoldable |abbrev |pub )*([^\s:(){}]+) :", line)
-            if below and lemma:
+            lemma = re.match(r"^\s+(?:unfoldable |abbrev |pub )*([^\s:(){}]+) :(?: |$)", line)
+            if lemma and "returns" not in lemma.group(1):
                 yield lemma.group(1)
             continue
-        below = line.startswith("module _")
         if line.startswith(("--", ")", "]", "}") + SKIPPED):
             continue
         inside = bool(re.match(r"^(?:abbrev |pub |unfoldable )*(?:record|data)\b", line))

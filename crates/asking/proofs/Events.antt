@@ -143,32 +143,32 @@ module _ (t : SpeedTable) (period now : Ps) where
   -- ── By command, after the first PRECHARGE ALL ──
 
   module _ (u : StartUp) (r : Record) (bs : List Bank) where
-    pub events-active : shorts t period now (events Active period u r bs) ≡ either (shorts t period now (of_any period u)) (shorts t period now (of_active period r.ba bs))
+    pub events_active : shorts t period now (events Active period u r bs) ≡ either (shorts t period now (of_any period u)) (shorts t period now (of_active period r.ba bs))
     unfolding events
-    events-active = simp (shorts_join, shorts_only, either_none, none_either)
+    events_active = simp (shorts_join, shorts_only, either_none, none_either)
 
     -- WRITE, READ and BURST TERMINATE
-    pub events-burst : (k : Command) → (access k || is k Terminate) ≡ true
+    pub events_burst : (k : Command) → (access k || is k Terminate) ≡ true
         → shorts t period now (events k period u r bs) ≡ either (shorts t period now (of_any period u)) (shorts t period now (only (access k) (of_access period (bank_at bs r.ba))))
     unfolding events
-    events-burst Inhibit h = absurd (true≢false (sym h))
-    events-burst Nop h = absurd (true≢false (sym h))
-    events-burst Active h = absurd (true≢false (sym h))
-    events-burst Read h = simp (shorts_join, shorts_only, either_none, none_either)
-    events-burst Write h = simp (shorts_join, shorts_only, either_none, none_either)
-    events-burst Terminate h = simp (shorts_join, shorts_only, either_none, none_either)
-    events-burst Precharge h = absurd (true≢false (sym h))
-    events-burst Refresh h = absurd (true≢false (sym h))
-    events-burst LoadMode h = absurd (true≢false (sym h))
+    events_burst Inhibit h = absurd (true≢false (sym h))
+    events_burst Nop h = absurd (true≢false (sym h))
+    events_burst Active h = absurd (true≢false (sym h))
+    events_burst Read h = simp (shorts_join, shorts_only, either_none, none_either)
+    events_burst Write h = simp (shorts_join, shorts_only, either_none, none_either)
+    events_burst Terminate h = simp (shorts_join, shorts_only, either_none, none_either)
+    events_burst Precharge h = absurd (true≢false (sym h))
+    events_burst Refresh h = absurd (true≢false (sym h))
+    events_burst LoadMode h = absurd (true≢false (sym h))
 
-    pub events-precharge : shorts t period now (events Precharge period u r bs) ≡ either (shorts t period now (of_any period u)) (shorts t period now (of_precharge period r bs))
+    pub events_precharge : shorts t period now (events Precharge period u r bs) ≡ either (shorts t period now (of_any period u)) (shorts t period now (of_precharge period r bs))
     unfolding events
-    events-precharge = simp (shorts_join, shorts_only, either_none, none_either)
+    events_precharge = simp (shorts_join, shorts_only, either_none, none_either)
 
-    pub events-refresh : shorts t period now (events Refresh period u r bs) ≡ either (shorts t period now (of_any period u)) (shorts t period now (of_idle bs))
+    pub events_refresh : shorts t period now (events Refresh period u r bs) ≡ either (shorts t period now (of_any period u)) (shorts t period now (of_idle bs))
     unfolding events
-    events-refresh = simp (shorts_join, shorts_only, either_none, none_either)
+    events_refresh = simp (shorts_join, shorts_only, either_none, none_either)
 
-    pub events-load : shorts t period now (events LoadMode period u r bs) ≡ either (shorts t period now (of_any period u)) (shorts t period now (of_idle bs))
+    pub events_load : shorts t period now (events LoadMode period u r bs) ≡ either (shorts t period now (of_any period u)) (shorts t period now (of_idle bs))
     unfolding events
-    events-load = simp (shorts_join, shorts_only, either_none, none_either)
+    events_load = simp (shorts_join, shorts_only, either_none, none_either)

@@ -41,11 +41,11 @@ use Rattle.asking.specs.Shorts.{shorts, either, lowest}
 use Rattle.asking.specs.Answers.{auto_answer}
 use Rattle.asking.proofs.Lowest.{minimum_lowest}
 use Rattle.asking.proofs.Events.{
-  events-active,
-  events-burst,
-  events-precharge,
-  events-refresh,
-  events-load,
+  events_active,
+  events_burst,
+  events_precharge,
+  events_refresh,
+  events_load,
 }
 
 -- the first answer, unless it is clean
@@ -187,46 +187,46 @@ module _ (t : SpeedTable) (c : Core) (bs : List Bank) (r : Record) (n : Clock) (
       (Refused 15 0)
 
   module _ (b : begun c.startup ≡ true) where
-    minima-begun : (k : Command) → minima k c.period c.startup r bs ≡ events k c.period c.startup r bs
+    minima_begun : (k : Command) → minima k c.period c.startup r bs ≡ events k c.period c.startup r bs
     unfolding minima
-    minima-begun k = rw b
+    minima_begun k = rw b
 
-    begun-active : first_broken (command_rules Active t (core_module c) c.period (found c bs n) r n now)
+    begun_active : first_broken (command_rules Active t (core_module c) c.period (found c bs n) r n now)
         ≡ cond (started c.startup)
         active_answer
         (Refused 14 0)
     unfolding allowed banks_found mode_rules bus_rules
-    begun-active = rw (ladder Active t c bs r n now, minima-begun Active, events-active, then_taken, b, and-true, and-true)
+    begun_active = rw (ladder Active t c bs r n now, minima_begun Active, events_active, then_taken, b, and-true, and-true)
 
-    begun-burst : (k : Command) → (access k || is k Terminate) ≡ true
+    begun_burst : (k : Command) → (access k || is k Terminate) ≡ true
         → first_broken (command_rules k t (core_module c) c.period (found c bs n) r n now)
         ≡ cond (started c.startup)
         (burst_answer k)
         (Refused 14 0)
     unfolding allowed banks_found mode_rules
-    begun-burst Inhibit h = absurd (true≢false (sym h))
-    begun-burst Nop h = absurd (true≢false (sym h))
-    begun-burst Active h = absurd (true≢false (sym h))
-    begun-burst Read h = rw (ladder Read t c bs r n now, minima-begun Read, events-burst t c.period now c.startup r bs Read h, b, and-true)
-    begun-burst Write h = rw (ladder Write t c bs r n now, minima-begun Write, events-burst t c.period now c.startup r bs Write h, b, and-true)
-    begun-burst Terminate h = rw (ladder Terminate t c bs r n now, minima-begun Terminate, events-burst t c.period now c.startup r bs Terminate h, b)
-    begun-burst Precharge h = absurd (true≢false (sym h))
-    begun-burst Refresh h = absurd (true≢false (sym h))
-    begun-burst LoadMode h = absurd (true≢false (sym h))
+    begun_burst Inhibit h = absurd (true≢false (sym h))
+    begun_burst Nop h = absurd (true≢false (sym h))
+    begun_burst Active h = absurd (true≢false (sym h))
+    begun_burst Read h = rw (ladder Read t c bs r n now, minima_begun Read, events_burst t c.period now c.startup r bs Read h, b, and-true)
+    begun_burst Write h = rw (ladder Write t c bs r n now, minima_begun Write, events_burst t c.period now c.startup r bs Write h, b, and-true)
+    begun_burst Terminate h = rw (ladder Terminate t c bs r n now, minima_begun Terminate, events_burst t c.period now c.startup r bs Terminate h, b)
+    begun_burst Precharge h = absurd (true≢false (sym h))
+    begun_burst Refresh h = absurd (true≢false (sym h))
+    begun_burst LoadMode h = absurd (true≢false (sym h))
 
-    pub precharge-ladder : first_broken (command_rules Precharge t (core_module c) c.period (found c bs n) r n now)
+    pub precharge_ladder : first_broken (command_rules Precharge t (core_module c) c.period (found c bs n) r n now)
         ≡ lowest (either (shorts t c.period now (of_any c.period c.startup)) (shorts t c.period now (of_precharge c.period r bs)))
     unfolding allowed banks_found mode_rules bus_rules
-    precharge-ladder = rw (ladder Precharge t c bs r n now, minima-begun Precharge, events-precharge, then_taken, b)
+    precharge_ladder = rw (ladder Precharge t c bs r n now, minima_begun Precharge, events_precharge, then_taken, b)
 
-    pub refresh-ladder : first_broken (command_rules Refresh t (core_module c) c.period (found c bs n) r n now)
+    pub refresh_ladder : first_broken (command_rules Refresh t (core_module c) c.period (found c bs n) r n now)
         ≡ cond (every closed bs)
         (lowest (either (shorts t c.period now (of_any c.period c.startup)) (shorts t c.period now (of_idle bs))))
         (Refused 15 0)
     unfolding allowed banks_found mode_rules bus_rules
-    refresh-ladder = rw (ladder Refresh t c bs r n now, minima-begun Refresh, events-refresh, then_taken, b)
+    refresh_ladder = rw (ladder Refresh t c bs r n now, minima_begun Refresh, events_refresh, then_taken, b)
 
-    pub load-ladder : first_broken (command_rules LoadMode t (core_module c) c.period (found c bs n) r n now)
+    pub load_ladder : first_broken (command_rules LoadMode t (core_module c) c.period (found c bs n) r n now)
         ≡ cond (two_done c.startup.refreshes)
         (cond (every closed bs)
         (then (lowest (either (shorts t c.period now (of_any c.period c.startup)) (shorts t c.period now (of_idle bs))))
@@ -234,7 +234,7 @@ module _ (t : SpeedTable) (c : Core) (bs : List Bank) (r : Record) (n : Clock) (
         (Refused 15 0))
         (Refused 14 0)
     unfolding allowed banks_found bus_rules
-    load-ladder = rw (ladder LoadMode t c bs r n now, minima-begun LoadMode, events-load, then_taken, b, and-true)
+    load_ladder = rw (ladder LoadMode t c bs r n now, minima_begun LoadMode, events_load, then_taken, b, and-true)
 
   -- ── ACTIVE, before it or after ──
 
@@ -249,7 +249,7 @@ module _ (t : SpeedTable) (c : Core) (bs : List Bank) (r : Record) (n : Clock) (
           ≡ cond (begun c.startup && started c.startup)
           active_answer
           (Refused 14 0)
-      go true b = rw b (begun-active b)
+      go true b = rw b (begun_active b)
       go false b = rw (unbegun Active b, b)
 
   -- ── WRITE, READ and BURST TERMINATE, before it or after ──
@@ -261,21 +261,21 @@ module _ (t : SpeedTable) (c : Core) (bs : List Bank) (r : Record) (n : Clock) (
       (Refused 14 0)
   burst_ladder k h = go (begun c.startup) refl
     where
-      no-precharge : (k : Command) → (access k || is k Terminate) ≡ true → precharge_all k r ≡ false
-      no-precharge Inhibit h = absurd (true≢false (sym h))
-      no-precharge Nop h = absurd (true≢false (sym h))
-      no-precharge Active h = absurd (true≢false (sym h))
-      no-precharge Read h = refl
-      no-precharge Write h = refl
-      no-precharge Terminate h = refl
-      no-precharge Precharge h = absurd (true≢false (sym h))
-      no-precharge Refresh h = absurd (true≢false (sym h))
-      no-precharge LoadMode h = absurd (true≢false (sym h))
+      no_precharge : (k : Command) → (access k || is k Terminate) ≡ true → precharge_all k r ≡ false
+      no_precharge Inhibit h = absurd (true≢false (sym h))
+      no_precharge Nop h = absurd (true≢false (sym h))
+      no_precharge Active h = absurd (true≢false (sym h))
+      no_precharge Read h = refl
+      no_precharge Write h = refl
+      no_precharge Terminate h = refl
+      no_precharge Precharge h = absurd (true≢false (sym h))
+      no_precharge Refresh h = absurd (true≢false (sym h))
+      no_precharge LoadMode h = absurd (true≢false (sym h))
 
       go : (x : Bool) → begun c.startup ≡ x
           → first_broken (command_rules k t (core_module c) c.period (found c bs n) r n now)
           ≡ cond (begun c.startup && started c.startup)
           (burst_answer k)
           (Refused 14 0)
-      go true b = rw b (begun-burst b k h)
-      go false b = rw (unbegun k b, no-precharge k h, b)
+      go true b = rw b (begun_burst b k h)
+      go false b = rw (unbegun k b, no_precharge k h, b)

@@ -28,8 +28,8 @@ module _ (f : Bool) (start n : Clock) where
 
   -- one on clock x
   module _ (x : Clock) where
-    pub cut-now : (f && (ltb start.0 n.0 && before_cut start n (On x))) ≡ true → On n ≡ cond f (cut_on start n (On x)) (On x)
-    cut-now h = both_asked f (ltb start.0 n.0 && before_cut start n (On x)) (On n) (On x) h
+    pub cut_now : (f && (ltb start.0 n.0 && before_cut start n (On x))) ≡ true → On n ≡ cond f (cut_on start n (On x)) (On x)
+    cut_now h = both_asked f (ltb start.0 n.0 && before_cut start n (On x)) (On n) (On x) h
 
-    pub cut-already : (f && (ltb start.0 n.0 && before_cut start n (On x))) ≡ false → On x ≡ cond f (cut_on start n (On x)) (On x)
-    cut-already h = not_both_asked f (ltb start.0 n.0 && before_cut start n (On x)) (On n) (On x) h
+    pub cut_already : (f && (ltb start.0 n.0 && before_cut start n (On x))) ≡ false → On x ≡ cond f (cut_on start n (On x)) (On x)
+    cut_already h = not_both_asked f (ltb start.0 n.0 && before_cut start n (On x)) (On n) (On x) h

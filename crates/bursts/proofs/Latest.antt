@@ -70,12 +70,12 @@ module _ (bs : List Burst) (h : length bs ≡ 4) (masks : ℕ) (n : Clock) where
       pub second_runs : (i ≡ 0 → ⊥) → i ≡ 1 → read_beat (burst bs 1) masks n ≡ reads_beat bs masks n
       second_runs f g = let s = is_second one two three i e f g in rw (by_tests, s.0, s.1)
 
-      pub third-runs : (i ≡ 0 → ⊥) → (i ≡ 1 → ⊥) → i ≡ 2 → read_beat (burst bs 2) masks n ≡ reads_beat bs masks n
-      third-runs f g k = let s = is_third one two three i e f g k in rw (by_tests, s.0, s.1, s.2)
+      pub third_runs : (i ≡ 0 → ⊥) → (i ≡ 1 → ⊥) → i ≡ 2 → read_beat (burst bs 2) masks n ≡ reads_beat bs masks n
+      third_runs f g k = let s = is_third one two three i e f g k in rw (by_tests, s.0, s.1, s.2)
 
-      pub fourth-runs : (a || (b || (c || d))) ≡ true → (i ≡ 0 → ⊥) → (i ≡ 1 → ⊥) → (i ≡ 2 → ⊥)
+      pub fourth_runs : (a || (b || (c || d))) ≡ true → (i ≡ 0 → ⊥) → (i ≡ 1 → ⊥) → (i ≡ 2 → ⊥)
           → read_beat (burst bs 3) masks n ≡ reads_beat bs masks n
-      fourth-runs t f g k =
+      fourth_runs t f g k =
           let s = is_none one two three i e f g k in
           let last : d ≡ true = the_last a b c d (ltb w x) (ltb w y) (ltb w z) (ltb x y) (ltb x z) (ltb y z) t s.0 s.1 s.2 in
           rw (by_tests, s.0, s.1, s.2, last)

@@ -69,11 +69,11 @@ module _ (n : Clock) (bs : List Burst) (h : length bs ≡ 4) where
       pub first_goes : i ≡ 0 → with_room n bs ≡ (burst bs 1 ∷ burst bs 2 ∷ burst bs 3 ∷ [])
       first_goes g = rw (by_tests, is_first one two three i e g)
 
-      pub second-goes : (i ≡ 0 → ⊥) → i ≡ 1 → with_room n bs ≡ (burst bs 0 ∷ burst bs 2 ∷ burst bs 3 ∷ [])
-      second-goes f g = let s = is_second one two three i e f g in rw (by_tests, s.0, s.1)
+      pub second_goes : (i ≡ 0 → ⊥) → i ≡ 1 → with_room n bs ≡ (burst bs 0 ∷ burst bs 2 ∷ burst bs 3 ∷ [])
+      second_goes f g = let s = is_second one two three i e f g in rw (by_tests, s.0, s.1)
 
-      pub third-goes : (i ≡ 0 → ⊥) → (i ≡ 1 → ⊥) → i ≡ 2 → with_room n bs ≡ (burst bs 0 ∷ burst bs 1 ∷ burst bs 3 ∷ [])
-      third-goes f g k = let s = is_third one two three i e f g k in rw (by_tests, s.0, s.1, s.2)
+      pub third_goes : (i ≡ 0 → ⊥) → (i ≡ 1 → ⊥) → i ≡ 2 → with_room n bs ≡ (burst bs 0 ∷ burst bs 1 ∷ burst bs 3 ∷ [])
+      third_goes f g k = let s = is_third one two three i e f g k in rw (by_tests, s.0, s.1, s.2)
 
-      pub fourth-goes : (i ≡ 0 → ⊥) → (i ≡ 1 → ⊥) → (i ≡ 2 → ⊥) → with_room n bs ≡ (burst bs 0 ∷ burst bs 1 ∷ burst bs 2 ∷ [])
-      fourth-goes f g k = let s = is_none one two three i e f g k in rw (by_tests, s.0, s.1, s.2)
+      pub fourth_goes : (i ≡ 0 → ⊥) → (i ≡ 1 → ⊥) → (i ≡ 2 → ⊥) → with_room n bs ≡ (burst bs 0 ∷ burst bs 1 ∷ burst bs 2 ∷ [])
+      fourth_goes f g k = let s = is_none one two three i e f g k in rw (by_tests, s.0, s.1, s.2)

@@ -70,8 +70,8 @@ module _ (u : Setup) (s : State) (bytes page beats : List ℕ) where
   module _ (p : first_broken (records_rules u s (length bytes) (length page)) ≡ Taken) where
     record Called : Type 0 where
       page_left : (records_call u s bytes page beats).page ≡ (fold u s seen page beats).page
-      beats-left : (records_call u s bytes page beats).beats ≡ (fold u s seen page beats).beats
-      if-clean : (records_call u s bytes page beats).ran.verdict ≡ Taken
+      beats_left : (records_call u s bytes page beats).beats ≡ (fold u s seen page beats).beats
+      if_clean : (records_call u s bytes page beats).ran.verdict ≡ Taken
           → (leb (length bytes / 16) (room s) ≡ true) × ((run u s seen).verdict ≡ Taken)
 
     called : Called
@@ -89,15 +89,15 @@ module _ (u : Setup) (s : State) (bytes page beats : List ℕ) where
             let e = records_entered u s bytes page beats p t ∙ ap (λ rs. fold u s rs page beats) (sym (count true t)) in
             record {
               page_left = ap (λ (l : Left). l.page) e;
-              beats-left = ap (λ (l : Left). l.beats) e;
-              if-clean = λ h. (t, sym (ap (λ (l : Left). l.ran.verdict) (e ∙ fold_run u s seen page beats)) ∙ h);
+              beats_left = ap (λ (l : Left). l.beats) e;
+              if_clean = λ h. (t, sym (ap (λ (l : Left). l.ran.verdict) (e ∙ fold_run u s seen page beats)) ∙ h);
             }
         go false t =
             let e = records_past u s bytes page beats p t ∙ ap (λ rs. past_room (fold u s rs page beats)) (sym (count false t)) in
             record {
               page_left = ap (λ (l : Left). l.page) e;
-              beats-left = ap (λ (l : Left). l.beats) e;
-              if-clean = λ h. never (run u s seen).verdict (run u s seen).reported (sym (ap (λ (l : Left). l.ran.verdict) (e ∙ ap past_room (fold_run u s seen page beats))) ∙ h);
+              beats_left = ap (λ (l : Left). l.beats) e;
+              if_clean = λ h. never (run u s seen).verdict (run u s seen).reported (sym (ap (λ (l : Left). l.ran.verdict) (e ∙ ap past_room (fold_run u s seen page beats))) ∙ h);
             }
 
 -- how many records a call takes, by what it finds before the first
@@ -160,8 +160,8 @@ module _ {t u : SpeedTable} (e : NowhereHarder t u) (ft : table_fits t ≡ true)
     in_count : stop ≤ length bytes / 16
     in_count = le_trans few (most_within (length bytes / 16) (room s))
 
-    in-room : stop ≤ room s
-    in-room = le_trans few (most_room (length bytes / 16) (room s))
+    in_room : stop ≤ room s
+    in_room = le_trans few (most_room (length bytes / 16) (room s))
 
     long : length part ≡ 16 * stop
     long = simp length-take (omega (arith, whole, in_count))
@@ -169,8 +169,8 @@ module _ {t u : SpeedTable} (e : NowhereHarder t u) (ft : table_fits t ≡ true)
     some : length part / 16 ≡ stop
     some = omega (arith, long)
 
-    part-enters : first_broken (records_rules (setup u) s (length part) (length page)) ≡ Taken
-    part-enters =
+    part_enters : first_broken (records_rules (setup u) s (length part) (length page)) ≡ Taken
+    part_enters =
         let none : eqb (length part % 16) 0 ≡ true = eq-eqb (length part % 16) 0 (omega (arith, long)) in
         let all : eqb (length bytes % 16) 0 ≡ true = eq-eqb (length bytes % 16) 0 (entry_of (setup t) s (length bytes) (length page) p).whole in
         records_ladder (setup u) s (length part) (length page) none
@@ -179,11 +179,11 @@ module _ {t u : SpeedTable} (e : NowhereHarder t u) (ft : table_fits t ≡ true)
         ∙ p
 
     -- what the easier call leaves of the records that the harder takes
-    part-run : records_call (setup u) s part page beats
+    part_run : records_call (setup u) s part page beats
         ≡ from_run s (take stop rs) page beats
         (record { verdict = Taken; reported = (run (setup t) s rs).reported; lines = (run (setup t) s rs).lines })
-    part-run =
-        records_entered (setup u) s part page beats part-enters (le-leb (length part / 16) (room s) (omega (arith, some, in-room)))
+    part_run =
+        records_entered (setup u) s part page beats part_enters (le-leb (length part / 16) (room s) (omega (arith, some, in_room)))
         ∙ ap (λ (k : ℕ). fold (setup u) s (records_of (state_module s) k part) page beats) some
         ∙ ap (λ l. fold (setup u) s l page beats)
         (records_within (state_module s) stop bytes ∙ sym (first_of (state_module s) stop (within_room s (length bytes / 16)) bytes few))
@@ -201,16 +201,16 @@ module _ {t u : SpeedTable} (e : NowhereHarder t u) (ft : table_fits t ≡ true)
           never_earlier = rw (some-t, some-u) (omega (arith, ap length f.lines ∙ length-append (run (setup t) s rs).lines f.more));
           beats_agree =
               rw some-t
-              (ap (λ (l : Left). l.beats) part-run
-              ∙ sym (c.beats-left ∙ ap (λ (l : Left). l.beats) (fold_run (setup t) s rs page beats)));
+              (ap (λ (l : Left). l.beats) part_run
+              ∙ sym (c.beats_left ∙ ap (λ (l : Left). l.beats) (fold_run (setup t) s rs page beats)));
           page_agrees =
               rw some-t
-              (ap (λ (l : Left). l.page) part-run
+              (ap (λ (l : Left). l.page) part_run
               ∙ page_by_lines (state_module s) s.core.bank s.core.row rs (run (setup t) s rs).lines page
               ∙ sym (c.page_left ∙ ap (λ (l : Left). l.page) (fold_run (setup t) s rs page beats)));
           clean =
               λ h.
-              let k = c.if-clean h in
+              let k = c.if_clean h in
               as_run (setup u) q k.0 ∙ ap (from_run s rs page beats) (sym (f.clean k.1)) ∙ sym (as_run (setup t) p k.0);
         }
 

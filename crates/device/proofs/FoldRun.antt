@@ -38,15 +38,15 @@ module _ (u : Setup) (s : State) (r : Record) (rs : List Record) (page beats : L
   -- ── With the state and the last beat ──
 
   module _ (w : Beat) where
-    pub went-taken : ask u s r ≡ Taken
+    pub went_taken : ask u s r ≡ Taken
         → went_by u s (r ∷ rs) w page beats
         ≡ went_by u (next u s r) rs (own_beat s r) (page_next s r page) (put_line s.core.number (line s r) beats)
     unfolding went_by next core_after core_from page_after lines_into all_taken
-    went-taken p = ap (run_left u s (r ∷ rs) w page beats) (run_taken u s r rs p)
+    went_taken p = ap (run_left u s (r ∷ rs) w page beats) (run_taken u s r rs p)
 
-    pub went-refused : (n i : ℕ) → ask u s r ≡ Refused n i → went_by u s (r ∷ rs) w page beats ≡ gone (went (Refused n i) s.core.number w s) page beats
+    pub went_refused : (n i : ℕ) → ask u s r ≡ Refused n i → went_by u s (r ∷ rs) w page beats ≡ gone (went (Refused n i) s.core.number w s) page beats
     unfolding went_by page_after lines_into all_taken
-    went-refused n i p = ap (run_left u s (r ∷ rs) w page beats) (run_refused u s r rs n i p)
+    went_refused n i p = ap (run_left u s (r ∷ rs) w page beats) (run_refused u s r rs n i p)
 
 pub went_none : (u : Setup) (s : State) (w : Beat) (page beats : List ℕ) → went_by u s [] w page beats ≡ gone (went Taken s.core.number w s) page beats
 unfolding went_by run page_after lines_into all_taken

@@ -30,7 +30,7 @@ use Rattle.rules.proofs.Admitted.{bank_fits_at}
 use Rattle.rules.proofs.Runs.{next_number}
 use Rattle.rules.proofs.Stays.{stays}
 use Rattle.device.specs.Engine.{went, gone, went_by}
-use Rattle.device.proofs.FoldRun.{went-taken, went-refused}
+use Rattle.device.proofs.FoldRun.{went_taken, went_refused}
 use Rattle.device.proofs.InPlace.{Settled}
 
 -- ── What a state from which records may be judged gives ──
@@ -113,11 +113,11 @@ module _ (bytes : List ℕ) (count k : ℕ) (more : k < count) where
           ≡ went_by u st after w page' beats'
       goes_on hn hp hb =
           turn_at
-          ∙ went-taken u s r after page beats w₀ p
+          ∙ went_taken u s r after page beats w₀ p
           ∙ sym (rw (hb, hp, hn, x.state, x.beat))
 
-      pub stays-able : Able u s (count - k) → Able u st (count - (k + 1))
-      stays-able a =
+      pub stays_able : Able u s (count - k) → Able u st (count - (k + 1))
+      stays_able a =
           let c : count - k ≡ (count - (k + 1)) + 1 = omega arith in
           let widths = subst (λ (y : Record). Widths y) (sym read) (record_fits m part) in
           let place = subst (λ (y : Record). OnModule m y) (sym read) (record_on m part) in
@@ -127,4 +127,4 @@ module _ (bytes : List ℕ) (count k : ℕ) (more : k < count) where
     -- one that is refused
     pub stops : (n i : ℕ) → ask u s r ≡ Refused n i
         → went_by u s (records_of m (count - k) (drop (16 * k) bytes)) w₀ page beats ≡ gone (went (Refused n i) s.core.number w₀ s) page beats
-    stops n i p = turn_at ∙ went-refused u s r after page beats w₀ n i p
+    stops n i p = turn_at ∙ went_refused u s r after page beats w₀ n i p

@@ -30,7 +30,7 @@ use Rattle.rules.specs.OneRecord.{state_rules}
 use Rattle.rules.specs.Report.{put_line, Left, left, ran, fold, records_rules, room, within_room, records_in, records_call, call_run, records_next}
 use Rattle.rules.proofs.Runs.{next_number, page_next}
 use Rattle.device.specs.Engine.{Gone, gone, went, went_by}
-use Rattle.device.proofs.FoldRun.{went-taken, went-refused, went_none}
+use Rattle.device.proofs.FoldRun.{went_taken, went_refused, went_none}
 use Rattle.admitting.proofs.Ladder.{records_ladder}
 use Rattle.device.proofs.Starts.{run_in, records_entered}
 use Rattle.device.proofs.Ready.{Ready, ready_of, ready_state, ready_next}
@@ -63,9 +63,9 @@ went_join u s (r ∷ rs) qs w page beats =
         ≡ then_on u qs (went_by u (next u s r) rs (own_beat s r) (page_next s r page) (put_line s.core.number (line s r) beats))
         → went_by u s ((r ∷ rs) ++ qs) w page beats ≡ then_on u qs (went_by u s (r ∷ rs) w page beats)
     go Taken p ih =
-        went-taken u s r (rs ++ qs) page beats w p ∙ ih ∙ sym (ap (then_on u qs) (went-taken u s r rs page beats w p))
+        went_taken u s r (rs ++ qs) page beats w p ∙ ih ∙ sym (ap (then_on u qs) (went_taken u s r rs page beats w p))
     go (Refused n i) p ih =
-        went-refused u s r (rs ++ qs) page beats w n i p ∙ sym (ap (then_on u qs) (went-refused u s r rs page beats w n i p))
+        went_refused u s r (rs ++ qs) page beats w n i p ∙ sym (ap (then_on u qs) (went_refused u s r rs page beats w n i p))
 
 -- ── The records of two slices ──
 
@@ -122,7 +122,7 @@ clean u s (suc j) k a w page beats e h =
         → Clean u (next u s r) j k (went_by u (next u s r) rs (own_beat s r) (page_next s r page) (put_line s.core.number (line s r) beats)))
         → Clean u s (suc j) k (went_by u s (r ∷ rs) w page beats)
     go Taken p ih =
-        let q = went-taken u s r rs page beats w p in
+        let q = went_taken u s r rs page beats w p in
         let c = ih p (sym (ap (λ (g : Gone). g.went.verdict) q) ∙ h) in
         subst (λ (g : Gone). Clean u s (suc j) k g) (sym q)
         (record {
@@ -132,7 +132,7 @@ clean u s (suc j) k a w page beats e h =
           length_kept = c.length_kept;
         })
     go (Refused n i) p ih =
-        let x : ◌≡◌ {A = Verdict} (Refused n i) Taken = sym (ap (λ (g : Gone). g.went.verdict) (went-refused u s r rs page beats w n i p)) ∙ h in
+        let x : ◌≡◌ {A = Verdict} (Refused n i) Taken = sym (ap (λ (g : Gone). g.went.verdict) (went_refused u s r rs page beats w n i p)) ∙ h in
         let z : ◌≡◌ {A = ℕ} 0 1 = cc in
         absurd (omega arith)
 

@@ -26,11 +26,11 @@ use Rattle.rules.specs.Run.{Run, run, page_left, state_left, beat_left}
 use Rattle.rules.specs.OneRecord.{state_rules, entry_rules, record_for, answer_of, found_of, ask_call, Took, took, left_by, take_record, take_call}
 use Rattle.rules.specs.Report.{Left, ran, fold, records_rules, room, within_room, records_in, records_lent, call_run, records_next}
 use Rattle.rules.proofs.Runs.{run_taken, run_refused, page_same, state_same}
-use Rattle.rules.proofs.OneRecord.{asked-entered, took-entered, asked-out, took-out}
+use Rattle.rules.proofs.OneRecord.{asked_entered, took_entered, asked_out, took_out}
 use Rattle.device.specs.Engine.{reported_by}
 use Rattle.device.proofs.FoldRun.{from_run, fold_run}
 use Rattle.admitting.proofs.Ladder.{records_ladder}
-use Rattle.device.proofs.Starts.{entry_of, run_out, run_in, lent-refused, lent-entered}
+use Rattle.device.proofs.Starts.{entry_of, run_out, run_in, lent_refused, lent_entered}
 
 pub not_sixteen : (m : Module) (bytes : List ℕ) → (length bytes ≡ 16 → ⊥) → eqb (record_number (read_record m bytes)) 0 ≡ false
 unfolding read_record
@@ -47,10 +47,10 @@ module _ (u : Setup) (s : State) (bytes page : List ℕ) (h : eqb (record_number
   wrong_out = rw h
 
   pub ask_wrong : ask_call u s bytes page ≡ answer_of 1 0 0 Quiet
-  ask_wrong = asked-out u s bytes page 1 0 wrong_out
+  ask_wrong = asked_out u s bytes page 1 0 wrong_out
 
   pub take_wrong : take_call u s bytes page ≡ took Quiet s page
-  take_wrong = took-out u s bytes page 1 0 wrong_out
+  take_wrong = took_out u s bytes page 1 0 wrong_out
 
 -- one of 16 bytes
 module _ (u : Setup) (s : State) (bytes page : List ℕ) (sixteen : length bytes ≡ 16) where
@@ -76,12 +76,12 @@ module _ (u : Setup) (s : State) (bytes page : List ℕ) (sixteen : length bytes
     in_one : records_in s bytes ≡ (record_for s bytes ∷ [])
     in_one = ap (λ x. records_of (state_module s) (cond x (length bytes / 16) (room s)) bytes) few ∙ single
 
-    run-one : call_run u s bytes (length page) ≡ run u s (record_for s bytes ∷ [])
-    run-one = run_in u s bytes (length page) p ∙ ap (run u s) in_one
+    run_one : call_run u s bytes (length page) ≡ run u s (record_for s bytes ∷ [])
+    run_one = run_in u s bytes (length page) p ∙ ap (run u s) in_one
 
-    fold-one : (lent beats : List ℕ) → records_lent u s bytes (length page) lent beats ≡ from_run s (record_for s bytes ∷ []) lent beats (run u s (record_for s bytes ∷ []))
-    fold-one lent beats =
-        lent-entered u s bytes (length page) lent beats p few
+    fold_one : (lent beats : List ℕ) → records_lent u s bytes (length page) lent beats ≡ from_run s (record_for s bytes ∷ []) lent beats (run u s (record_for s bytes ∷ []))
+    fold_one lent beats =
+        lent_entered u s bytes (length page) lent beats p few
         ∙ ap (λ rs. fold u s rs lent beats) single
         ∙ fold_run u s (record_for s bytes ∷ []) lent beats
 
@@ -96,13 +96,13 @@ module _ (u : Setup) (s : State) (bytes page : List ℕ) (sixteen : length bytes
       go : (v : Verdict) → first_broken (records_rules u s (length bytes) (length page)) ≡ v → taken_as ≡ take_call u s bytes page
       go Taken p =
           (λ i.
-          took (beat_left (run-one p i)) (state_left u s (in_one p i) (run-one p i)) (fold-one p page [] i).page)
-          ∙ sym (took-entered u s bytes page (sym alike ∙ p))
+          took (beat_left (run_one p i)) (state_left u s (in_one p i) (run_one p i)) (fold_one p page [] i).page)
+          ∙ sym (took_entered u s bytes page (sym alike ∙ p))
       go (Refused n k) p =
           let e = run_out u s bytes (length page) n k p in
           (λ i.
-          took (beat_left (e i)) ((ap (state_left u s (records_in s bytes)) e ∙ state_same u s (records_in s bytes) (record { verdict = Refused n k; reported = 0; lines = [] }) refl) i) (lent-refused u s bytes (length page) page [] n k p i).page)
-          ∙ sym (took-out u s bytes page n k (sym alike ∙ p))
+          took (beat_left (e i)) ((ap (state_left u s (records_in s bytes)) e ∙ state_same u s (records_in s bytes) (record { verdict = Refused n k; reported = 0; lines = [] }) refl) i) (lent_refused u s bytes (length page) page [] n k p i).page)
+          ∙ sym (took_out u s bytes page n k (sym alike ∙ p))
 
   -- ASKING: the verdict of the engine, whatever is lent to it
   module _ (lent : List ℕ) where
@@ -110,14 +110,14 @@ module _ (u : Setup) (s : State) (bytes page : List ℕ) (sixteen : length bytes
     unfolding run
     asks = go (first_broken (records_rules u s (length bytes) (length page))) refl
       where
-        of-run : Run → Answer
-        of-run v = told s (ran v.verdict v.reported)
+        of_run : Run → Answer
+        of_run v = told s (ran v.verdict v.reported)
 
         look : (v : Verdict) → ask u s (record_for s bytes) ≡ v
-            → of-run (run u s (record_for s bytes ∷ [])) ≡ found_of (ask u s (record_for s bytes)) s.core.number
-        look Taken q = ap of-run (run_taken u s (record_for s bytes) [] q) ∙ sym (ap (λ v. found_of v s.core.number) q)
-        look (Refused n k) q = ap of-run (run_refused u s (record_for s bytes) [] n k q) ∙ sym (ap (λ v. found_of v s.core.number) q)
+            → of_run (run u s (record_for s bytes ∷ [])) ≡ found_of (ask u s (record_for s bytes)) s.core.number
+        look Taken q = ap of_run (run_taken u s (record_for s bytes) [] q) ∙ sym (ap (λ v. found_of v s.core.number) q)
+        look (Refused n k) q = ap of_run (run_refused u s (record_for s bytes) [] n k q) ∙ sym (ap (λ v. found_of v s.core.number) q)
 
         go : (v : Verdict) → first_broken (records_rules u s (length bytes) (length page)) ≡ v → told s (records_lent u s bytes (length page) lent []).ran ≡ ask_call u s bytes page
-        go Taken p = ap (λ (l : Left). told s l.ran) (fold-one p lent []) ∙ look (ask u s (record_for s bytes)) refl ∙ sym (asked-entered u s bytes page (sym alike ∙ p))
-        go (Refused n k) p = ap (λ (l : Left). told s l.ran) (lent-refused u s bytes (length page) lent [] n k p) ∙ sym (asked-out u s bytes page n k (sym alike ∙ p))
+        go Taken p = ap (λ (l : Left). told s l.ran) (fold_one p lent []) ∙ look (ask u s (record_for s bytes)) refl ∙ sym (asked_entered u s bytes page (sym alike ∙ p))
+        go (Refused n k) p = ap (λ (l : Left). told s l.ran) (lent_refused u s bytes (length page) lent [] n k p) ∙ sym (asked_out u s bytes page n k (sym alike ∙ p))

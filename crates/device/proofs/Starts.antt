@@ -142,64 +142,64 @@ module _ (u : Setup) (s : State) (bytes : List ℕ) (lent : ℕ) where
   run_in p = rw (p, call_run)
 
   module _ (page beats : List ℕ) where
-    pub lent-refused : (n i : ℕ) → first_broken (records_rules u s (length bytes) lent) ≡ Refused n i
+    pub lent_refused : (n i : ℕ) → first_broken (records_rules u s (length bytes) lent) ≡ Refused n i
         → records_lent u s bytes lent page beats ≡ left (ran (Refused n i) 0) page beats
     unfolding records_lent
-    lent-refused n i p = rw (p, records_lent)
+    lent_refused n i p = rw (p, records_lent)
 
     module _ (p : first_broken (records_rules u s (length bytes) lent) ≡ Taken) where
       -- where no record's number is above 2^41
-      pub lent-entered : leb (length bytes / 16) (room s) ≡ true
+      pub lent_entered : leb (length bytes / 16) (room s) ≡ true
           → records_lent u s bytes lent page beats ≡ fold u s (records_of (state_module s) (length bytes / 16) bytes) page beats
       unfolding records_lent
-      lent-entered h = rw (p, records_lent, h)
+      lent_entered h = rw (p, records_lent, h)
 
       -- where one is: those before it, and 25
-      pub lent-past : leb (length bytes / 16) (room s) ≡ false
+      pub lent_past : leb (length bytes / 16) (room s) ≡ false
           → records_lent u s bytes lent page beats ≡ past_room (fold u s (records_of (state_module s) (room s) bytes) page beats)
       unfolding records_lent
-      lent-past h = rw (p, records_lent, h)
+      lent_past h = rw (p, records_lent, h)
 
       -- the same by how many are judged, from so many bytes
       module _ (n k : ℕ) (e : n ≡ within_room s (length bytes / 16)) (long : k ≡ 16 * n) where
         abbrev part : List Record
         part = records_of (state_module s) n (take k bytes)
 
-        same-part : part ≡ records_of (state_module s) n bytes
-        same-part = ap (λ (x : ℕ). records_of (state_module s) n (take x bytes)) long ∙ records_within (state_module s) n bytes
+        same_part : part ≡ records_of (state_module s) n bytes
+        same_part = ap (λ (x : ℕ). records_of (state_module s) n (take x bytes)) long ∙ records_within (state_module s) n bytes
 
-        part-is : part ≡ records_in s bytes
-        part-is = same-part ∙ ap (λ (x : ℕ). records_of (state_module s) x bytes) e
+        part_is : part ≡ records_in s bytes
+        part_is = same_part ∙ ap (λ (x : ℕ). records_of (state_module s) x bytes) e
 
         -- the state and the beat that the engine leaves
         pub next_is : state_left u s part (run u s part) ≡ records_next u s bytes lent
-        next_is = ap (λ rs. state_left u s rs (run u s rs)) part-is ∙ sym (ap (state_left u s (records_in s bytes)) (run_in p))
+        next_is = ap (λ rs. state_left u s rs (run u s rs)) part_is ∙ sym (ap (state_left u s (records_in s bytes)) (run_in p))
 
-        pub beat-is : beat_left (run u s part) ≡ beat_left (call_run u s bytes lent)
-        beat-is = ap (λ rs. beat_left (run u s rs)) part-is ∙ sym (ap beat_left (run_in p))
+        pub beat_is : beat_left (run u s part) ≡ beat_left (call_run u s bytes lent)
+        beat_is = ap (λ rs. beat_left (run u s rs)) part_is ∙ sym (ap beat_left (run_in p))
 
         abbrev judged : ℕ → Left
         judged x = fold u s (records_of (state_module s) x bytes) page beats
 
-        pub all-judged : length bytes / 16 ≤ n → fold u s part page beats ≡ records_lent u s bytes lent page beats
-        all-judged h = go (leb (length bytes / 16) (room s)) refl
+        pub all_judged : length bytes / 16 ≤ n → fold u s part page beats ≡ records_lent u s bytes lent page beats
+        all_judged h = go (leb (length bytes / 16) (room s)) refl
           where
             go : (x : Bool) → leb (length bytes / 16) (room s) ≡ x → fold u s part page beats ≡ records_lent u s bytes lent page beats
             go true t =
-                ap (λ rs. fold u s rs page beats) same-part ∙ ap judged (e ∙ ap (λ (y : Bool). cond y (length bytes / 16) (room s)) t) ∙ sym (lent-entered t)
+                ap (λ rs. fold u s rs page beats) same_part ∙ ap judged (e ∙ ap (λ (y : Bool). cond y (length bytes / 16) (room s)) t) ∙ sym (lent_entered t)
             go false t =
                 let m : n ≡ room s = e ∙ ap (λ (y : Bool). cond y (length bytes / 16) (room s)) t in
                 absurd (omega (arith, leb-false (length bytes / 16) (room s) t, m, h))
 
-        pub some-judged : n < length bytes / 16 → past_room (fold u s part page beats) ≡ records_lent u s bytes lent page beats
-        some-judged h = go (leb (length bytes / 16) (room s)) refl
+        pub some_judged : n < length bytes / 16 → past_room (fold u s part page beats) ≡ records_lent u s bytes lent page beats
+        some_judged h = go (leb (length bytes / 16) (room s)) refl
           where
             go : (x : Bool) → leb (length bytes / 16) (room s) ≡ x → past_room (fold u s part page beats) ≡ records_lent u s bytes lent page beats
             go true t =
                 let m : n ≡ length bytes / 16 = e ∙ ap (λ (y : Bool). cond y (length bytes / 16) (room s)) t in
                 absurd (omega (arith, m, h))
             go false t =
-                ap past_room (ap (λ rs. fold u s rs page beats) same-part ∙ ap judged (e ∙ ap (λ (y : Bool). cond y (length bytes / 16) (room s)) t)) ∙ sym (lent-past t)
+                ap past_room (ap (λ rs. fold u s rs page beats) same_part ∙ ap judged (e ∙ ap (λ (y : Bool). cond y (length bytes / 16) (room s)) t)) ∙ sym (lent_past t)
 
         -- ── What the engine leaves of that many is what the call leaves ──
 
@@ -212,15 +212,15 @@ module _ (u : Setup) (s : State) (bytes : List ℕ) (lent : ℕ) where
           as_fold = ap folded g
 
           pub all_left : length bytes / 16 ≤ n → left (ran w.verdict w.reported) page' beats' ≡ records_lent u s bytes lent page beats
-          all_left h = as_fold ∙ all-judged h
+          all_left h = as_fold ∙ all_judged h
 
-          pub next-left : w.next ≡ records_next u s bytes lent
+          pub next_left : w.next ≡ records_next u s bytes lent
           unfolding went_by
-          next-left = ap (λ (x : Gone). x.went.next) g ∙ next_is
+          next_left = ap (λ (x : Gone). x.went.next) g ∙ next_is
 
-          pub last-left : w.beat ≡ beat_left (call_run u s bytes lent)
+          pub last_left : w.beat ≡ beat_left (call_run u s bytes lent)
           unfolding went_by
-          last-left = ap (λ (x : Gone). x.went.beat) g ∙ beat-is
+          last_left = ap (λ (x : Gone). x.went.beat) g ∙ beat_is
 
           -- where more follow
           module _ (h : n < length bytes / 16) {x : Went} (past : x ≡ above_max w) where
@@ -229,13 +229,13 @@ module _ (u : Setup) (s : State) (bytes : List ℕ) (lent : ℕ) where
                 ap (λ (y : Went). left (left_of y) page' beats') past
                 ∙ ap (λ (r : Ran). left r page' beats') (above_left w).0
                 ∙ ap past_room as_fold
-                ∙ some-judged h
+                ∙ some_judged h
 
             pub some_next : x.next ≡ records_next u s bytes lent
-            some_next = ap (λ (y : Went). y.next) past ∙ (above_left w).1 ∙ next-left
+            some_next = ap (λ (y : Went). y.next) past ∙ (above_left w).1 ∙ next_left
 
-            pub some-last : x.beat ≡ beat_left (call_run u s bytes lent)
-            some-last = ap (λ (y : Went). y.beat) past ∙ (above_left w).2 ∙ last-left
+            pub some_last : x.beat ≡ beat_left (call_run u s bytes lent)
+            some_last = ap (λ (y : Went). y.beat) past ∙ (above_left w).2 ∙ last_left
 
 -- a call that looks at no record leaves its state, and has no beat
 module _ (u : Setup) (s : State) (bytes : List ℕ) (lent n i : ℕ) (p : first_broken (records_rules u s (length bytes) lent) ≡ Refused n i) where
@@ -253,12 +253,12 @@ module _ (u : Setup) (s : State) (bytes : List ℕ) (lent n i : ℕ) (p : first_
 module _ (u : Setup) (s : State) (bytes page beats : List ℕ) where
   pub records_refused : (n i : ℕ) → first_broken (records_rules u s (length bytes) (length page)) ≡ Refused n i
       → records_call u s bytes page beats ≡ left (ran (Refused n i) 0) page beats
-  records_refused = lent-refused u s bytes (length page) page beats
+  records_refused = lent_refused u s bytes (length page) page beats
 
   pub records_entered : first_broken (records_rules u s (length bytes) (length page)) ≡ Taken → leb (length bytes / 16) (room s) ≡ true
       → records_call u s bytes page beats ≡ fold u s (records_of (state_module s) (length bytes / 16) bytes) page beats
-  records_entered = lent-entered u s bytes (length page) page beats
+  records_entered = lent_entered u s bytes (length page) page beats
 
   pub records_past : first_broken (records_rules u s (length bytes) (length page)) ≡ Taken → leb (length bytes / 16) (room s) ≡ false
       → records_call u s bytes page beats ≡ past_room (fold u s (records_of (state_module s) (room s) bytes) page beats)
-  records_past = lent-past u s bytes (length page) page beats
+  records_past = lent_past u s bytes (length page) page beats

@@ -18,7 +18,7 @@ use Rattle.rules.specs.Parts.{state_module}
 use Rattle.rules.specs.Numbers.{rule, first_broken}
 use Rattle.rules.specs.OneRecord.{state_rules, entry_rules, ask_call, Took, take_call}
 use Rattle.rules.specs.Report.{put_line}
-use Rattle.rules.proofs.OneRecord.{asked-out}
+use Rattle.rules.proofs.OneRecord.{asked_out}
 use Rattle.asking.proofs.Ladders.{then_taken, first_join}
 use Rattle.device.proofs.OneRecord.{not_sixteen}
 use Rattle.words.specs.Words.{state_words, state_in, words_of, put_words, holds}
@@ -54,7 +54,7 @@ module _ (u : Setup) (s : State) (h : Narrow s) (bytes page : List ℕ) where
     where
       go : (v : Verdict) → first_broken (entry_rules u s bytes page) ≡ v → ask_words u (words_of s) bytes page ≡ word_for (ask_call u s bytes page)
       go Taken p = ask_in u (words_of s) bytes page (entered ∙ p) ∙ ap (λ (x : State). word_for (ask_call u x bytes page)) (read_back s h)
-      go (Refused n i) p = ask_out u (words_of s) bytes page n i (entered ∙ p) ∙ sym (ap word_for (asked-out u s bytes page n i p))
+      go (Refused n i) p = ask_out u (words_of s) bytes page n i (entered ∙ p) ∙ sym (ap word_for (asked_out u s bytes page n i p))
 
   zero_word : (n i k : ℕ) → n ≡ 0 → word_of n i k % 2 ^ 8 ≡ 0
   zero_word n i k z = omega (arith, z)

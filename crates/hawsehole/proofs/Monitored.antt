@@ -30,7 +30,7 @@ use Rattle.rules.specs.OneRecord.{period_fits, grade_known, state_rules, entry_r
 use Rattle.rules.specs.Report.{beat_word, put_line}
 use Rattle.rules.specs.Fits.{fits}
 use Rattle.rules.proofs.Kept.{rules_of, command_rules_of, kept, broken_number, numbers_asked}
-use Rattle.rules.proofs.OneRecord.{asked-entered, asked-out}
+use Rattle.rules.proofs.OneRecord.{asked_entered, asked_out}
 use Rattle.asking.proofs.Ladders.{then, then_taken, first_join}
 use Rattle.words.specs.Words.{state_words, state_in, words_of, holds, put_words}
 use Rattle.hawsehole.specs.Numbers.{word_of}
@@ -75,12 +75,12 @@ start_fits words period grade bank row p =
     record {
       grade_fits = omega (arith, g);
       bank_fits = omega (arith, ltb-true bank 4 r.0);
-      row_fits = omega (arith, ltb-true row (rows (module_of grade)) r.1, rows-most (module_of grade));
+      row_fits = omega (arith, ltb-true row (rows (module_of grade)) r.1, rows_most (module_of grade));
     }
   where
-    rows-most : (m : Module) → rows m ≤ 8192
-    rows-most Bench = omega arith
-    rows-most Handheld = omega arith
+    rows_most : (m : Module) → rows m ≤ 8192
+    rows_most Bench = omega arith
+    rows_most Handheld = omega arith
 
 module _ (words : List ℕ) (period grade bank row : ℕ) where
   pub start_out : (n i : ℕ) → first_broken (start_rules (length words) period grade bank row) ≡ Refused n i
@@ -147,53 +147,53 @@ module _ (u : Setup) (words bytes page : List ℕ) where
     abbrev s : State
     s = state_in words
 
-    abbrev of-state : List Rule
-    of-state = state_rules u s (length page)
+    abbrev of_state : List Rule
+    of_state = state_rules u s (length page)
 
-    past_first : first_broken (monitor_rules u words (length bytes) (length page)) ≡ first_broken (of-state ++ (rule 25 0 (holds words) ∷ []))
+    past_first : first_broken (monitor_rules u words (length bytes) (length page)) ≡ first_broken (of_state ++ (rule 25 0 (holds words) ∷ []))
     unfolding monitor_rules
     past_first = rw (eq-eqb (length bytes) 16 sixteen, eq-eqb (length words) state_words all)
 
-    entry-is : first_broken (entry_rules u s bytes page) ≡ first_broken of-state
+    entry_is : first_broken (entry_rules u s bytes page) ≡ first_broken of_state
     unfolding entry_rules
-    entry-is = rw (sixteen_pass (state_module s) bytes sixteen)
+    entry_is = rw (sixteen_pass (state_module s) bytes sixteen)
 
     -- they hold it: what asking answers
-    pub held-ask : holds words ≡ true → word_for (ask_call u s bytes page) ≡ ask_words u words bytes page
-    held-ask h = go (first_broken of-state) refl
+    pub held_ask : holds words ≡ true → word_for (ask_call u s bytes page) ≡ ask_words u words bytes page
+    held_ask h = go (first_broken of_state) refl
       where
-        same : first_broken (monitor_rules u words (length bytes) (length page)) ≡ first_broken of-state
+        same : first_broken (monitor_rules u words (length bytes) (length page)) ≡ first_broken of_state
         same =
             past_first
-            ∙ ap (λ (x : Bool). first_broken (of-state ++ (rule 25 0 x ∷ []))) h
-            ∙ first_join of-state (rule 25 0 true ∷ [])
-            ∙ then_taken (first_broken of-state)
+            ∙ ap (λ (x : Bool). first_broken (of_state ++ (rule 25 0 x ∷ []))) h
+            ∙ first_join of_state (rule 25 0 true ∷ [])
+            ∙ then_taken (first_broken of_state)
 
-        go : (v : Verdict) → first_broken of-state ≡ v → word_for (ask_call u s bytes page) ≡ ask_words u words bytes page
+        go : (v : Verdict) → first_broken of_state ≡ v → word_for (ask_call u s bytes page) ≡ ask_words u words bytes page
         go Taken p = sym (ask_in (same ∙ p))
-        go (Refused n i) p = ap word_for (asked-out u s bytes page n i (entry-is ∙ p)) ∙ sym (ask_out n i (same ∙ p))
+        go (Refused n i) p = ap word_for (asked_out u s bytes page n i (entry_is ∙ p)) ∙ sym (ask_out n i (same ∙ p))
 
     -- they do not
-    pub unheld-ask : holds words ≡ false → unheld_word (ask_call u s bytes page).number ≡ ask_words u words bytes page
+    pub unheld_ask : holds words ≡ false → unheld_word (ask_call u s bytes page).number ≡ ask_words u words bytes page
     unfolding state_rules
-    unheld-ask h = go (first_broken of-state) refl
+    unheld_ask h = go (first_broken of_state) refl
       where
-        last : first_broken (monitor_rules u words (length bytes) (length page)) ≡ first_broken (of-state ++ (rule 25 0 false ∷ []))
-        last = past_first ∙ ap (λ (x : Bool). first_broken (of-state ++ (rule 25 0 x ∷ []))) h
+        last : first_broken (monitor_rules u words (length bytes) (length page)) ≡ first_broken (of_state ++ (rule 25 0 false ∷ []))
+        last = past_first ∙ ap (λ (x : Bool). first_broken (of_state ++ (rule 25 0 x ∷ []))) h
 
         look : (v : Verdict) → ask u s (record_for s bytes) ≡ v → unheld_word (number_of v) ≡ 25
         look Taken q = refl
         look (Refused n i) q = large_word n (leb-true 8 n (large_number u s (record_for s bytes) n i q))
 
-        go : (v : Verdict) → first_broken of-state ≡ v → unheld_word (ask_call u s bytes page).number ≡ ask_words u words bytes page
+        go : (v : Verdict) → first_broken of_state ≡ v → unheld_word (ask_call u s bytes page).number ≡ ask_words u words bytes page
         go Taken p =
-            ap (λ (a : Answer). unheld_word a.number) (asked-entered u s bytes page (entry-is ∙ p))
+            ap (λ (a : Answer). unheld_word a.number) (asked_entered u s bytes page (entry_is ∙ p))
             ∙ look (ask u s (record_for s bytes)) refl
-            ∙ sym (ask_out 25 0 (last ∙ words_last of-state false p))
+            ∙ sym (ask_out 25 0 (last ∙ words_last of_state false p))
         go (Refused n i) p =
-            ap (λ (a : Answer). unheld_word a.number) (asked-out u s bytes page n i (entry-is ∙ p))
+            ap (λ (a : Answer). unheld_word a.number) (asked_out u s bytes page n i (entry_is ∙ p))
             ∙ sym (state_word (period_fits s.core.period) (grade_known s.core.grade) (table_fits u.table) (eqb (length page) (page_bytes (state_module s))) (fits s) p)
-            ∙ sym (ask_out n i (last ∙ then_words of-state false p))
+            ∙ sym (ask_out n i (last ∙ then_words of_state false p))
 
   -- ── Taking ──
 

@@ -35,7 +35,7 @@ use Rattle.rules.specs.Fits.{number_max, fits}
 use Rattle.rules.proofs.Admitted.{admitted, fits_admitted}
 use Rattle.rules.proofs.Kept.{kept}
 use Rattle.rules.proofs.Runs.{next_number, page_next}
-use Rattle.rules.proofs.OneRecord.{refused, taken, step-refuses, entry-refused, taken_at_zero, step_taken}
+use Rattle.rules.proofs.OneRecord.{refused, taken, step_refuses, entry_refused, taken_at_zero, step_taken}
 use Rattle.rules.specs.Calls.{Able}
 use Rattle.admitting.proofs.Ladder.{records_ladder}
 use Rattle.device.proofs.Starts.{Entry, entry_of, records_entered, records_past}
@@ -69,16 +69,16 @@ module _ (u : Setup) (s : State) (k : ℕ) (bytes page beats : List ℕ) where
 
   -- where the call looks at its record, by what it finds
   module _ (p : first_broken (entry_rules u s (take 16 bytes) page) ≡ Taken) where
-    asked-taken : ask u s first ≡ Taken
+    asked_taken : ask u s first ≡ Taken
         → walk u s (suc k) bytes page beats
         ≡ walk u (next u s first) k (drop 16 bytes) (page_next s first page) (put_line s.core.number (line s first) beats)
-    asked-taken q = walk_taken (step_taken u s (take 16 bytes) page (record { entered = p; asked = q }))
+    asked_taken q = walk_taken (step_taken u s (take 16 bytes) page (record { entered = p; asked = q }))
 
     -- no row that a record meets has number 0
-    asked-refused : (n i : ℕ) → ask u s first ≡ Refused n i
+    asked_refused : (n i : ℕ) → ask u s first ≡ Refused n i
         → walk u s (suc k) bytes page beats ≡ left (ran (Refused n i) s.core.number) page beats
-    asked-refused n i q =
-        let w = step-refuses u s (take 16 bytes) page p n i q in
+    asked_refused n i q =
+        let w = step_refuses u s (take 16 bytes) page p n i q in
         walk_refused n i w
         (ne_eqb n 0
         (λ z.
@@ -126,11 +126,11 @@ module _ (u : Setup) (more total : ℕ) (after : Left → Left)
           → walk u s (suc (longer c more)) bytes page beats
           ≡ after (fold u s (r ∷ records_of (state_module s) c (drop 16 bytes)) page beats)
       go Taken p ih =
-          asked-taken u s (longer c more) bytes page beats enter p
+          asked_taken u s (longer c more) bytes page beats enter p
           ∙ ih p
           ∙ ap after (sym (fold_taken u s r (records_of (state_module s) c (drop 16 bytes)) page beats p))
       go (Refused n i) p ih =
-          asked-refused u s (longer c more) bytes page beats enter n i p
+          asked_refused u s (longer c more) bytes page beats enter n i p
           ∙ sym (refusal n i s.core.number page beats)
           ∙ ap after (sym (fold_refused u s r (records_of (state_module s) c (drop 16 bytes)) page beats n i p))
 
@@ -153,7 +153,7 @@ twenty_five u more s bytes page beats h e k =
     let p : first_broken (entry_rules u s (take 16 bytes) page) ≡ Refused 25 0 =
     rw (sixteen_pass (state_module s) (take 16 bytes) long, e.period, e.grade, e.table, eq-eqb (length page) (page_bytes (state_module s)) e.lent, too_many s k)
     in
-    rw (entry-refused u s (take 16 bytes) page 25 0 p)
+    rw (entry_refused u s (take 16 bytes) page 25 0 p)
 
 -- ── From what the call of many records tries before its first ──
 

@@ -116,14 +116,14 @@ module _ (b : Burst) (x : ℕ) (g : Gone b.start.0 x b.cut) where
   no_beat length endless m h = rw (gone_lost b.start.0 x m b.cut g h, and-false)
 
   module _ (k : latency b.word ≤ 3) (n : Clock) (h : x + 3 ≤ n.0) where
-    gone-quiet : reads_on b n ≡ false
-    gone-quiet =
+    gone_quiet : reads_on b n ≡ false
+    gone_quiet =
         let m = clock (n.0 - latency b.word) in
         rw (no_beat (length_of b.word) (full_page b.word) m (omega (arith, k, h)), and-false)
 
     -- nor on a later clock
-    gone-over : to_come n b ≡ false
-    gone-over = no_beat (length_of b.word) (full_page b.word) _ (omega (arith, k, h))
+    gone_over : to_come n b ≡ false
+    gone_over = no_beat (length_of b.word) (full_page b.word) _ (omega (arith, k, h))
 
 -- ── The latest READ that runs ──
 
@@ -134,7 +134,7 @@ latest_beat (b ∷ bs) masks n = cond (reads_on b n) (read_beat b masks n) (late
 
 all_quiet : (bs : List Burst) (masks : ℕ) (n : Clock) (x : ℕ) → AllGone x bs → x + 3 ≤ n.0 → latest_beat bs masks n ≡ Quiet
 all_quiet [] masks n x g k = refl
-all_quiet (b ∷ bs) masks n x g k = rw (gone-quiet b x g.0.0 g.0.1 n k) (all_quiet bs masks n x g.1 k)
+all_quiet (b ∷ bs) masks n x g k = rw (gone_quiet b x g.0.0 g.0.1 n k) (all_quiet bs masks n x g.1 k)
 
 -- four are enough
 enough : (bs : List Burst) (masks : ℕ) (n : Clock) (x : ℕ) → Ordered x bs → x ≤ n.0 + 1
@@ -215,7 +215,7 @@ room_three (a ∷ b ∷ []) n x o h = fourth_gives_way n (a ∷ b ∷ no_burst �
 room_three (a ∷ b ∷ c ∷ []) n x o h = fourth_gives_way n (a ∷ b ∷ c ∷ no_burst ∷ []) refl refl
 room_three (a ∷ b ∷ c ∷ d ∷ bs) n x o h =
     fourth_gives_way n (a ∷ b ∷ c ∷ d ∷ []) refl
-    (gone-over d c.start.0 o.1.1.0.1.0.0 o.1.1.0.1.0.1 n (omega (arith, o.0.0, o.1.0.0, o.1.1.0.0)))
+    (gone_over d c.start.0 o.1.1.0.1.0.0 o.1.1.0.1.0.1 n (omega (arith, o.0.0, o.1.0.0, o.1.1.0.0)))
 
 -- FOR A NEW READ THE OLDEST OF THE FOUR MAKES ROOM
 pub held_room : (past : List Record) (n : Clock) → Words past → first_free past ≤ n.0

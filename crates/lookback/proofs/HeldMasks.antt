@@ -71,15 +71,15 @@ unfolding masks_on
 same_masks [] m h = sym (free_high [] m (omega arith))
 same_masks (r ∷ past) m h = go (leb m.0 (clock_in past r).0) refl
   where
-    by-age : (d : ℕ) → m.0 + d ≡ (clock_in past r).0
+    by_age : (d : ℕ) → m.0 + d ≡ (clock_in past r).0
         → get_or (three_held (r ∷ past)) d all_high ≡ masks_at (r ∷ past) m
-    by-age zero e = first_back (r ∷ past) m (omega arith)
-    by-age (suc zero) e = second_back (r ∷ past) m (omega arith)
-    by-age (suc (suc zero)) e = third_back (r ∷ past) m (omega arith)
-    by-age (suc (suc (suc d))) e = absurd (omega arith)
+    by_age zero e = first_back (r ∷ past) m (omega arith)
+    by_age (suc zero) e = second_back (r ∷ past) m (omega arith)
+    by_age (suc (suc zero)) e = third_back (r ∷ past) m (omega arith)
+    by_age (suc (suc (suc d))) e = absurd (omega arith)
 
     go : (x : Bool) → leb m.0 (clock_in past r).0 ≡ x
         → cond (leb m.0 (clock_in past r).0) (get_or (three_held (r ∷ past)) ((clock_in past r).0 - m.0) all_high) all_high
         ≡ masks_at (r ∷ past) m
-    go true e = rw e (by-age ((clock_in past r).0 - m.0) (omega (arith, leb-true m.0 (clock_in past r).0 e)))
+    go true e = rw e (by_age ((clock_in past r).0 - m.0) (omega (arith, leb-true m.0 (clock_in past r).0 e)))
     go false e = rw e (sym (free_high (r ∷ past) m (omega (arith, leb-false m.0 (clock_in past r).0 e))))

@@ -75,8 +75,8 @@ module _ (all : List Record) (masks : ℕ) (n : Clock) where
         (and_comm (not (stands (cuts_write r.ba) w n.0 all))
         (write_endless (mode_in past) || ltb (n.0 - w) (write_length (mode_in past))))
 
-    newer-cuts : writes r ≡ true → (i x : ℕ) → x < (clock_in past r).0 → stands (cuts_write i) x n.0 all ≡ true
-    newer-cuts e i x k =
+    newer_cuts : writes r ≡ true → (i x : ℕ) → x < (clock_in past r).0 → stands (cuts_write i) x n.0 all ≡ true
+    newer_cuts e i x k =
         s.lost i x n.0 (omega arith)
         ∙ rw (lt-ltb x (clock_in past r).0 k, le-leb (clock_in past r).0 n.0 h, e, or-true, or-true)
 
@@ -99,7 +99,7 @@ module _ (all : List Record) (masks : ℕ) (n : Clock) where
           (Stores (cells_in r past (n.0 - (clock_in past r).0) masks)) (write_on all masks n past)
       go true e rest =
           own _ _ (write_same c r past s (omega arith))
-          (older_writes (clock_in past r).0 past (omega arith) (omega arith) (newer-cuts c r past s (omega arith) e))
+          (older_writes (clock_in past r).0 past (omega arith) (omega arith) (newer_cuts c r past s (omega arith) e))
       go false e rest = rest
 
 -- ── The READs ──
@@ -204,8 +204,8 @@ module _ (all : List Record) (masks : ℕ) (n : Clock) where
           rw (← e, i)
       own false y b d e q = rw (← e) q
 
-      by-write : writes r ≡ true → (x : ℕ) → x < (clock_in past r).0 → stands writes x n.0 all ≡ true
-      by-write e x k =
+      by_write : writes r ≡ true → (x : ℕ) → x < (clock_in past r).0 → stands writes x n.0 all ≡ true
+      by_write e x k =
           free x n.0 (omega (arith, k))
           ∙ rw (e, lt-ltb x (clock_in past r).0 k, le-leb (clock_in past r).0 n.0 (omega arith))
 
@@ -219,7 +219,7 @@ module _ (all : List Record) (masks : ℕ) (n : Clock) where
           (read_on all masks n past)
       go true y e f rest =
           let z : y ≡ false = sym f ∙ no_read r e in
-          rw z (sym (older_reads (clock_in past r).0 past (omega arith) (omega arith) (by-write e)))
+          rw z (sym (older_reads (clock_in past r).0 past (omega arith) (omega arith) (by_write e)))
       go false true e f rest = own _ _ _ _ (read_same c r past s free) (rest e)
       go false false e f rest = rest e
 

@@ -81,37 +81,37 @@ take_refused u s r page n i p = ap (left_by u s (r ∷ []) page) (run_refused u 
 
 module _ (u : Setup) (s : State) (bytes page : List ℕ) where
   module _ (p : first_broken (entry_rules u s bytes page) ≡ Taken) where
-    pub asked-entered : ask_call u s bytes page ≡ found_of (ask u s (record_for s bytes)) s.core.number
+    pub asked_entered : ask_call u s bytes page ≡ found_of (ask u s (record_for s bytes)) s.core.number
     unfolding ask_call
-    asked-entered = rw (p, ask_call)
+    asked_entered = rw (p, ask_call)
 
-    pub took-entered : take_call u s bytes page ≡ take_record u s (record_for s bytes) page
+    pub took_entered : take_call u s bytes page ≡ take_record u s (record_for s bytes) page
     unfolding take_call
-    took-entered = rw (p, take_call)
+    took_entered = rw (p, take_call)
 
-    pub step-takes : ask u s (record_for s bytes) ≡ Taken → step u s bytes page ≡ taken u s (record_for s bytes) page
+    pub step_takes : ask u s (record_for s bytes) ≡ Taken → step u s bytes page ≡ taken u s (record_for s bytes) page
     unfolding step
-    step-takes q =
-        λ i. both ((asked-entered ∙ ap (λ v. found_of v s.core.number) q) i) ((took-entered ∙ take_taken u s (record_for s bytes) page q) i)
+    step_takes q =
+        λ i. both ((asked_entered ∙ ap (λ v. found_of v s.core.number) q) i) ((took_entered ∙ take_taken u s (record_for s bytes) page q) i)
 
-    pub step-refuses : (n i : ℕ) → ask u s (record_for s bytes) ≡ Refused n i → step u s bytes page ≡ refused n i s.core.number s page
+    pub step_refuses : (n i : ℕ) → ask u s (record_for s bytes) ≡ Refused n i → step u s bytes page ≡ refused n i s.core.number s page
     unfolding step
-    step-refuses n i q =
-        λ k. both ((asked-entered ∙ ap (λ v. found_of v s.core.number) q) k) ((took-entered ∙ take_refused u s (record_for s bytes) page n i q) k)
+    step_refuses n i q =
+        λ k. both ((asked_entered ∙ ap (λ v. found_of v s.core.number) q) k) ((took_entered ∙ take_refused u s (record_for s bytes) page n i q) k)
 
   -- 1, 3, 4, 6, 7 AND 25 LEAVE ALL AND REPORT RECORD 0
   module _ (n i : ℕ) (p : first_broken (entry_rules u s bytes page) ≡ Refused n i) where
-    pub asked-out : ask_call u s bytes page ≡ found_of (Refused n i) 0
+    pub asked_out : ask_call u s bytes page ≡ found_of (Refused n i) 0
     unfolding ask_call
-    asked-out = rw (p, ask_call)
+    asked_out = rw (p, ask_call)
 
-    pub took-out : take_call u s bytes page ≡ took Quiet s page
+    pub took_out : take_call u s bytes page ≡ took Quiet s page
     unfolding take_call
-    took-out = rw (p, take_call)
+    took_out = rw (p, take_call)
 
-    pub entry-refused : step u s bytes page ≡ refused n i 0 s page
+    pub entry_refused : step u s bytes page ≡ refused n i 0 s page
     unfolding step
-    entry-refused = λ k. both (asked-out k) (took-out k)
+    entry_refused = λ k. both (asked_out k) (took_out k)
 
 -- ASKING, THEN TAKING, IS THE ONE-RECORD CALL AS IT STOOD BEFORE IT WAS SPLIT: one elimination of what is found before the record is looked
 -- at, and one of what is asked of it
@@ -142,12 +142,12 @@ as_before u s bytes page = enter (first_broken (entry_rules u s bytes page)) ref
     Asked v = elim v [ Taken ↦ taken u s (record_for s bytes) page | Refused n i ↦ refused n i s.core.number s page ]
 
     enter : (v : Verdict) → first_broken (entry_rules u s bytes page) ≡ v → step u s bytes page ≡ Old (first_broken (entry_rules u s bytes page))
-    enter (Refused n i) p = entry-refused u s bytes page n i p ∙ sym (ap Old p)
+    enter (Refused n i) p = entry_refused u s bytes page n i p ∙ sym (ap Old p)
     enter Taken p = look (ask u s (record_for s bytes)) refl ∙ sym (ap Old p)
       where
         look : (v : Verdict) → ask u s (record_for s bytes) ≡ v → step u s bytes page ≡ Asked (ask u s (record_for s bytes))
-        look Taken q = step-takes u s bytes page p q ∙ sym (ap Asked q)
-        look (Refused n i) q = step-refuses u s bytes page p n i q ∙ sym (ap Asked q)
+        look Taken q = step_takes u s bytes page p q ∙ sym (ap Asked q)
+        look (Refused n i) q = step_refuses u s bytes page p n i q ∙ sym (ap Asked q)
 
 -- what holds of a call, shown by what it finds
 pub by_step : (P : Stepped → Type 0) (u : Setup) (s : State) (bytes page : List ℕ)
@@ -157,12 +157,12 @@ pub by_step : (P : Stepped → Type 0) (u : Setup) (s : State) (bytes page : Lis
 by_step P u s bytes page f g = enter (first_broken (entry_rules u s bytes page)) refl
   where
     enter : (v : Verdict) → first_broken (entry_rules u s bytes page) ≡ v → P (step u s bytes page)
-    enter (Refused n i) p = rw (entry-refused u s bytes page n i p) (g n i 0)
+    enter (Refused n i) p = rw (entry_refused u s bytes page n i p) (g n i 0)
     enter Taken p = look (ask u s (record_for s bytes)) refl
       where
         look : (v : Verdict) → ask u s (record_for s bytes) ≡ v → P (step u s bytes page)
-        look Taken q = rw (step-takes u s bytes page p q) (f p q)
-        look (Refused n i) q = rw (step-refuses u s bytes page p n i q) (g n i s.core.number)
+        look Taken q = rw (step_takes u s bytes page p q) (f p q)
+        look (Refused n i) q = rw (step_refuses u s bytes page p n i q) (g n i s.core.number)
 
 -- A CALL THAT DOES NOT TAKE ITS RECORD LEAVES STATE AND PAGE AS THEY WERE
 pub record Untouched (s : State) (before : List ℕ) (x : Stepped) : Type 0 where
@@ -201,7 +201,7 @@ taken_at_zero u s bytes page z = enter (first_broken (entry_rules u s bytes page
   where
     enter : (v : Verdict) → first_broken (entry_rules u s bytes page) ≡ v → Entering u s bytes page
     enter (Refused n i) p =
-        let h : n ≡ 0 = subst (λ (x : Stepped). x.answer.number ≡ 0) (entry-refused u s bytes page n i p) z in
+        let h : n ≡ 0 = subst (λ (x : Stepped). x.answer.number ≡ 0) (entry_refused u s bytes page n i p) z in
         let q : ◌≡◌ {A = Verdict} (Refused n i) Taken = zero_taken (entry_rules u s bytes page) (Refused n i) (entry_numbers u s bytes page) p h in
         let e : ◌≡◌ {A = ℕ} 0 1 = cc in
         absurd (omega arith)
@@ -210,14 +210,14 @@ taken_at_zero u s bytes page z = enter (first_broken (entry_rules u s bytes page
         look : (v : Verdict) → ask u s (record_for s bytes) ≡ v → Entering u s bytes page
         look Taken q = record { entered = p; asked = q }
         look (Refused n i) q =
-            let w = step-refuses u s bytes page p n i q in
+            let w = step_refuses u s bytes page p n i q in
             let h : n ≡ 0 = subst (λ (x : Stepped). x.answer.number ≡ 0) w z in
             let k : ◌≡◌ {A = Verdict} (Refused n i) Taken = zero_taken (rules_of u s (record_for s bytes)) (Refused n i) (rules_numbers u s (record_for s bytes)) q h in
             let e : ◌≡◌ {A = ℕ} 0 1 = cc in
             absurd (omega arith)
 
 pub step_taken : (u : Setup) (s : State) (bytes page : List ℕ) → Entering u s bytes page → step u s bytes page ≡ taken u s (record_for s bytes) page
-step_taken u s bytes page e = step-takes u s bytes page e.entered e.asked
+step_taken u s bytes page e = step_takes u s bytes page e.entered e.asked
 
 -- ── DEMAND 3 by state ──
 

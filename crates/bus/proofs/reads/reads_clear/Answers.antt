@@ -8,6 +8,6 @@ use Rattle.bus.proofs.reads.reads_clear.Goals as goal
 pub returns : goal.returns
 returns c =
     let a = c.args in
-    let h : length a.t1 ≡ 4 = search rules in
+    let h : length a.bs ≡ 4 = search rules in
     rw (c.leaves_clear-d.ensures, c.leaves_clear-c.ensures, c.leaves_clear-b.ensures, c.leaves_clear-a.ensures)
-    (clear_four a.t1 h a.lane a.earlier a.n a.m)
+    (clear_four a.bs h a.lane a.earlier a.n a.m)
