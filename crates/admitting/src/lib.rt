@@ -1,5 +1,6 @@
 // What is tried before a record is looked at: the bytes, the table, the page and the state.
 #![tactic(auto)]
+
 ghost use Rattle.std.specs.Prelude.{◌≡◌};
 ghost use Rattle.rules.specs.Numbers.{first_broken};
 ghost use Rattle.rules.specs.OneRecord.{fit_rules, state_rules};
@@ -30,6 +31,7 @@ fn fit_verdict(u: Setup, s: State, lent: usize) -> Verdict
 }
 
 // 3, 4, 6, 7 and 25.
+#[tactic(auto, unfolding(rules::specs::OneRecord::state_rules))]
 fn state_verdict(u: Setup, s: State, lent: usize) -> Verdict
     ensures { result ≡ first_broken (state_rules u s lent) }
 {
@@ -44,6 +46,7 @@ fn state_verdict(u: Setup, s: State, lent: usize) -> Verdict
 }
 
 // What is tried before the first record: whole records, then 3, 4, 6, 7 and 25.
+#[tactic(auto, unfolding(rules::specs::Report::records_rules))]
 pub fn records_verdict(u: Setup, s: State, bytes: usize, lent: usize) -> Verdict
     ensures { result ≡ first_broken (records_rules u s bytes lent) }
 {

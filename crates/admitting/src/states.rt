@@ -38,6 +38,7 @@ fn status_fits(m: Module, x: Status) -> bool
     }
 }
 
+#[tactic(auto, unfolding(rules::specs::Fits::bank_fits))]
 fn bank_fits(m: Module, b: Bank) -> bool
     ensures { result ≡ bank_fits m b }
 {
@@ -61,6 +62,7 @@ fn banks_fit(m: Module, all: [Bank; 4]) -> bool
 }
 
 // "A reserved mode word, or a bank, row or column off the module."
+#[tactic(auto, unfolding(rules::specs::Fits::burst_fits))]
 fn burst_fits(m: Module, b: Burst) -> bool
     ensures { result ≡ burst_fits m b }
 {
@@ -120,6 +122,7 @@ fn startup_fits(m: Module, u: StartUp) -> bool
     p & q & s
 }
 
+#[tactic(auto, unfolding(rules::specs::Fits::core_fits))]
 fn core_fits(m: Module, c: Core) -> bool
     ensures { result ≡ core_fits m c }
 {
@@ -133,6 +136,7 @@ fn core_fits(m: Module, c: Core) -> bool
     (c.bank < BANKS) & (c.row < rows) & (c.number <= NUMBER_MAX) & p & q & s
 }
 
+#[tactic(auto, unfolding(rules::specs::Fits::fits))]
 pub fn fits(s: State) -> bool
     ensures { result ≡ fits s }
 {

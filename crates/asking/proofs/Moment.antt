@@ -9,7 +9,7 @@ use Rattle.layout.specs.declared.Record.{Record}
 use Rattle.rules.specs.declared.Refreshes.{Refreshes}
 use Rattle.rules.specs.declared.Bank.{Bank}
 use Rattle.rules.specs.declared.Verdict.TheVariants.{Taken, Refused}
-use Rattle.rules.specs.Numbers.{Rule, rule, first_broken}
+use Rattle.rules.specs.Numbers.{rule, first_broken}
 use Rattle.rules.specs.Banks.{every, open_within}
 use Rattle.rules.specs.Rules.{every_rules}
 use Rattle.asking.specs.Moment.{moment_rules}

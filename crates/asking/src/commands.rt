@@ -20,6 +20,7 @@ use units::{Clock, Module, Ps};
 // "That command must stand at 100,000,000 ps or later."
 const POWER_UP: u64 = 100_000_000;
 
+#[tactic(auto, unfolding(rules::specs::Rules::command_rules))]
 fn ask_precharge(t: SpeedTable, c: Core, all: [Bank; 4], r: Record, n: Clock, moment: Ps) -> Verdict
     requires { Call t c all r × (begun c.startup ≡ true) }
     ensures { result ≡ first_broken (command_rules Command.Precharge t (core_module c) c.period (found c all n) r n moment) }
@@ -30,6 +31,7 @@ fn ask_precharge(t: SpeedTable, c: Core, all: [Bank; 4], r: Record, n: Clock, mo
     minima::lowest(minima::either(any, own))
 }
 
+#[tactic(auto, unfolding(rules::specs::Rules::command_rules))]
 fn ask_refresh(t: SpeedTable, c: Core, all: [Bank; 4], r: Record, n: Clock, moment: Ps) -> Verdict
     requires { Call t c all r × (begun c.startup ≡ true) }
     ensures { result ≡ first_broken (command_rules Command.Refresh t (core_module c) c.period (found c all n) r n moment) }
@@ -43,6 +45,7 @@ fn ask_refresh(t: SpeedTable, c: Core, all: [Bank; 4], r: Record, n: Clock, mome
     Verdict::refused(15)
 }
 
+#[tactic(auto, unfolding(rules::specs::Rules::command_rules))]
 fn ask_load_mode(t: SpeedTable, c: Core, all: [Bank; 4], r: Record, n: Clock, moment: Ps) -> Verdict
     requires { Call t c all r × (begun c.startup ≡ true) }
     ensures { result ≡ first_broken (command_rules Command.LoadMode t (core_module c) c.period (found c all n) r n moment) }
@@ -88,6 +91,7 @@ fn ask_begun(
 }
 
 // "Before the first PRECHARGE ALL only NOP and COMMAND INHIBIT are allowed."
+#[tactic(auto, unfolding(rules::specs::Rules::command_rules))]
 fn ask_first(
     k: Command,
     t: SpeedTable,
@@ -128,6 +132,7 @@ pub fn ask_banks(
 }
 
 // 14 to 16 of ACTIVE.
+#[tactic(auto, unfolding(rules::specs::Rules::command_rules))]
 pub fn ask_active(
     t: SpeedTable,
     c: Core,
@@ -156,6 +161,7 @@ pub fn ask_active(
 }
 
 // 14 to 22 of WRITE, READ and BURST TERMINATE. BURST TERMINATE names no bank.
+#[tactic(auto, unfolding(rules::specs::Rules::command_rules))]
 pub fn ask_burst(
     k: Command,
     t: SpeedTable,

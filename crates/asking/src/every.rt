@@ -14,6 +14,7 @@ use speed::SpeedTable;
 use units::{Clock, Ps, time};
 
 // 10, 23, 11 and 12, which look at no bank.
+#[tactic(auto, unfolding(crate::specs::Moment::moment_rules))]
 pub fn ask_moment(
     t: SpeedTable,
     period: Ps,

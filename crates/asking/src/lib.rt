@@ -1,5 +1,6 @@
 // What is asked of a record, command by command. Asking reads, and changes nothing.
 #![tactic(auto)]
+
 pub mod commands;
 pub mod every;
 mod maxima;

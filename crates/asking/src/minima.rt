@@ -31,6 +31,7 @@ pub fn no_shorts() -> Shorts
 }
 
 // What is short by either.
+#[tactic(auto, unfolding(crate::specs::Shorts::either))]
 pub fn either(a: Shorts, b: Shorts) -> Shorts
     ensures { result ≡ either a b }
 {
@@ -56,6 +57,7 @@ fn short(interval: u8) -> Verdict
 }
 
 // "The lowest such is named."
+#[tactic(auto, unfolding(crate::specs::Shorts::lowest))]
 pub fn lowest(s: Shorts) -> Verdict
     ensures { result ≡ lowest s }
 {
@@ -87,6 +89,7 @@ pub fn lowest(s: Shorts) -> Verdict
 }
 
 // "Any executable command: tRFC since the last refresh, tMRD since the last mode load, tRP since the last PRECHARGE ALL."
+#[tactic(auto, unfolding(rules::specs::Minima::of_any, crate::specs::Shorts::shorts))]
 pub fn any_shorts(t: SpeedTable, period: Ps, u: StartUp, moment: Ps) -> Shorts
     requires { FitPeriod period × FitStartUp u × Bounds t }
     ensures { result ≡ shorts t period moment (of_any period u) }
@@ -121,6 +124,7 @@ fn short_other(period: Ps, ba: u8, i: u8, b: Bank, min: Ps, moment: Ps) -> bool
     since::short_since(period, active, min, moment)
 }
 
+#[tactic(auto, unfolding(crate::specs::Shorts::short_others))]
 pub fn short_others(period: Ps, ba: u8, banks: [Bank; 4], min: Ps, moment: Ps) -> bool
     requires { FitPeriod period × BanksFit banks × FitSpan min }
     ensures { result ≡ short_others period ba banks min moment }
@@ -138,6 +142,7 @@ pub fn short_others(period: Ps, ba: u8, banks: [Bank; 4], min: Ps, moment: Ps) -
 }
 
 // "ACTIVE: tRP since its closing; tRC since its last ACTIVE; tRRD since the last ACTIVE of another bank."
+#[tactic(auto, unfolding(rules::specs::Minima::of_active, crate::specs::Shorts::shorts))]
 pub fn active_shorts(
     t: SpeedTable,
     period: Ps,
@@ -164,6 +169,7 @@ pub fn active_shorts(
 }
 
 // "READ, WRITE: tRCD since its ACTIVE", where the command is one of these.
+#[tactic(auto, unfolding(rules::specs::Minima::of_access, crate::specs::Shorts::shorts))]
 pub fn access_shorts(access: bool, t: SpeedTable, period: Ps, b: Bank, moment: Ps) -> Shorts
     requires { FitPeriod period × FitBank b × Bounds t }
     ensures { result ≡ shorts t period moment (only access (of_access period b)) }
@@ -182,6 +188,7 @@ pub fn access_shorts(access: bool, t: SpeedTable, period: Ps, b: Bank, moment: P
 }
 
 // "An open bank needs tRAS min, and tWR since the last clock on which a byte was stored in it"; a closed one tRP.
+#[tactic(auto, unfolding(rules::specs::Minima::of_precharged, crate::specs::Shorts::shorts))]
 pub fn precharged_shorts(t: SpeedTable, period: Ps, b: Bank, moment: Ps) -> Shorts
     requires { FitPeriod period × FitBank b × Bounds t }
     ensures { result ≡ shorts t period moment (of_precharged period b) }
@@ -201,6 +208,7 @@ pub fn precharged_shorts(t: SpeedTable, period: Ps, b: Bank, moment: Ps) -> Shor
 }
 
 // Bank i, where the PRECHARGE is for it.
+#[tactic(auto, unfolding(crate::specs::Shorts::shorts))]
 pub fn covered_shorts(t: SpeedTable, period: Ps, r: Record, i: u8, b: Bank, moment: Ps) -> Shorts
     requires { FitPeriod period × FitBank b × Bounds t }
     ensures { result ≡ shorts t period moment (of_covered period r i b) }
@@ -213,6 +221,7 @@ pub fn covered_shorts(t: SpeedTable, period: Ps, r: Record, i: u8, b: Bank, mome
 }
 
 // "PRECHARGE, one bank or (A10 HIGH) each of the four."
+#[tactic(auto, unfolding(rules::specs::Minima::of_precharge, crate::specs::Shorts::shorts))]
 pub fn precharge_shorts(
     t: SpeedTable,
     period: Ps,
@@ -239,6 +248,7 @@ fn short_closing(b: Bank, min: Ps, moment: Ps) -> bool
     since::short_closed(status, min, moment)
 }
 
+#[tactic(auto, unfolding(crate::specs::Shorts::short_closings))]
 pub fn short_closings(banks: [Bank; 4], min: Ps, moment: Ps) -> bool
     requires { BanksFit banks × FitSpan min }
     ensures { result ≡ short_closings banks min moment }
@@ -251,6 +261,7 @@ pub fn short_closings(banks: [Bank; 4], min: Ps, moment: Ps) -> bool
 }
 
 // "AUTO REFRESH, LOAD MODE: .. tRP since each closing."
+#[tactic(auto, unfolding(rules::specs::Minima::of_idle, crate::specs::Shorts::shorts))]
 pub fn idle_shorts(t: SpeedTable, period: Ps, banks: [Bank; 4], moment: Ps) -> Shorts
     requires { BanksFit banks × Bounds t }
     ensures { result ≡ shorts t period moment (of_idle banks) }

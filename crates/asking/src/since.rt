@@ -8,6 +8,7 @@ use rules::Status;
 use units::{Clock, Event, Ps, time};
 
 // A minimum since clock n is not met. By the sum, as document 01 says it: the table's bounds keep it below 64 bits.
+#[tactic(auto, unfolding(crate::specs::Shorts::short_on))]
 pub fn short_on(period: Ps, n: Clock, min: Ps, moment: Ps) -> bool
     requires { Reach period n × FitSpan min }
     ensures { result ≡ short_on period n min moment }
@@ -17,6 +18,7 @@ pub fn short_on(period: Ps, n: Clock, min: Ps, moment: Ps) -> bool
 }
 
 // "A minimum is met if its event has never occurred."
+#[tactic(auto, unfolding(crate::specs::Shorts::short_since))]
 pub fn short_since(period: Ps, event: Event, min: Ps, moment: Ps) -> bool
     requires { FitPeriod period × FitEvent event × FitSpan min }
     ensures { result ≡ short_since period event min moment }
@@ -28,6 +30,7 @@ pub fn short_since(period: Ps, event: Event, min: Ps, moment: Ps) -> bool
 }
 
 // Since the ACTIVE of an open bank.
+#[tactic(auto, unfolding(crate::specs::Shorts::short_opened))]
 pub fn short_opened(period: Ps, status: Status, min: Ps, moment: Ps) -> bool
     requires { FitPeriod period × FitStatus status × FitSpan min }
     ensures { result ≡ short_opened period status min moment }
@@ -40,6 +43,7 @@ pub fn short_opened(period: Ps, status: Status, min: Ps, moment: Ps) -> bool
 }
 
 // Since an event, where that is after clock n.
+#[tactic(auto, unfolding(crate::specs::Shorts::short_after))]
 fn short_after(period: Ps, n: Clock, event: Event, min: Ps, moment: Ps) -> bool
     requires { FitPeriod period × FitEvent event × FitSpan min }
     ensures { result ≡ short_after period n event min moment }
@@ -51,6 +55,7 @@ fn short_after(period: Ps, n: Clock, event: Event, min: Ps, moment: Ps) -> bool
 }
 
 // Since the last store in an open bank, where that is "after its ACTIVE".
+#[tactic(auto, unfolding(crate::specs::Shorts::short_stored))]
 pub fn short_stored(period: Ps, status: Status, stored: Event, min: Ps, moment: Ps) -> bool
     requires { FitPeriod period × FitEvent stored × FitSpan min }
     ensures { result ≡ short_stored period status stored min moment }
@@ -63,6 +68,7 @@ pub fn short_stored(period: Ps, status: Status, stored: Event, min: Ps, moment: 
 }
 
 // Since the closing of a closed bank.
+#[tactic(auto, unfolding(crate::specs::Shorts::short_closed))]
 pub fn short_closed(status: Status, min: Ps, moment: Ps) -> bool
     requires { FitStatus status × FitSpan min }
     ensures { result ≡ short_closed status min moment }

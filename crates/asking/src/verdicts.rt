@@ -27,6 +27,7 @@ fn tck_of(t: SpeedTable, latency: u8) -> Ps
 }
 
 // 17 and 18 of a LOAD MODE: "all else is 17".
+#[tactic(auto, unfolding(rules::specs::Rules::mode_rules))]
 pub fn mode_verdict(t: SpeedTable, unit: Module, period: Ps, r: Record) -> Verdict
     ensures { result ≡ first_broken (mode_rules Command.LoadMode t unit period r) }
 {
@@ -45,6 +46,7 @@ pub fn mode_verdict(t: SpeedTable, unit: Module, period: Ps, r: Record) -> Verdi
 }
 
 // 21 and 22 of a READ or WRITE that asks auto precharge.
+#[tactic(auto, unfolding(crate::specs::Answers::auto_answer))]
 fn auto_verdict(k: Command, t: SpeedTable, c: Core, status: Status, n: Clock) -> Verdict
     requires { Bounds t × FitPeriod c.period × FitStatus status × (n.0 ≤ clock_max) }
     ensures { result ≡ auto_answer k t c status n }
@@ -77,6 +79,7 @@ fn clear_for(k: Command, c: Core, n: Clock) -> bool
 }
 
 // 19 to 22 of a WRITE, READ or BURST TERMINATE.
+#[tactic(auto, unfolding(bursts::specs::Bus::bursts_finished, bursts::specs::Bus::bus_clear, rules::specs::Rules::bus_rules))]
 pub fn bus_verdict(
     k: Command,
     t: SpeedTable,

@@ -10,7 +10,6 @@ use Rattle.layout.specs.declared.Command.TheVariants.{Nop, Active, Read, Write, 
 use Rattle.layout.specs.Commands.{code_of, column_of}
 use Rattle.mode.specs.Word.{length_of}
 use Rattle.mode.specs.Order.{beat_column}
-use Rattle.bursts.specs.declared.Cells.{Cells}
 use Rattle.bursts.specs.declared.Beat.{Beat}
 use Rattle.bursts.specs.declared.Beat.TheVariants.{Quiet, Stores, Drives}
 use Rattle.bursts.specs.Burst.{has_beat, write_beat, read_beat, finished}

@@ -1,6 +1,6 @@
 -- Each minimum of number 16 with each command that asks it, from each kind of event that it counts from, on both sides; and the steps
 -- of start-up with each command. From document 01's sentences. `FurtherCases` proves it.
-use Rattle.std.specs.Prelude.{ℕ, zero, suc, ◌+◌, List, [], ◌∷◌, ◌++◌, length}
+use Rattle.std.specs.Prelude.{ℕ, zero, suc, List, [], ◌∷◌, ◌++◌, length}
 use Rattle.units.specs.declared.Event.TheVariants.{Never, On}
 use Rattle.units.specs.Time.{clock, time}
 use Rattle.speed.specs.declared.SpeedTable.{SpeedTable}

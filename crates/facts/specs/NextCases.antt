@@ -1,6 +1,6 @@
 -- What a taken record leaves, part by part: the whole next state, beat and page for each command, and for a refused one. From document
 -- 01's sentences. Assumes nothing.
-use Rattle.std.specs.Prelude.{ℕ, ◌+◌, ◌≡◌, refl, Bool, true, false, List, [], ◌∷◌, ◌++◌, replicate}
+use Rattle.std.specs.Prelude.{ℕ, ◌≡◌, refl, Bool, true, false, List, [], ◌∷◌, ◌++◌, replicate}
 use Rattle.units.specs.declared.Event.{Event}
 use Rattle.units.specs.declared.Event.TheVariants.{Never, On}
 use Rattle.units.specs.Time.{clock, time}

@@ -27,7 +27,7 @@ use Rattle.bursts.specs.Bus.{
   driven,
   bus_clear,
 }
-use Rattle.bursts.specs.Cases.{Row, ◌gives◌, found, expected}
+use Rattle.bursts.specs.Cases.{Row, found, expected}
 use Rattle.rules.specs.declared.Refreshes.{Refreshes}
 use Rattle.rules.specs.declared.Refreshes.TheVariants.{None, One, Two}
 use Rattle.rules.specs.declared.Register.{Register}

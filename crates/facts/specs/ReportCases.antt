@@ -1,10 +1,9 @@
 -- Beats as numbers, the page after a run, and the call of many records: rows from document 01's sentences and from the layout of the
 -- two words (include/hawsehole.h). Assumes nothing.
 use Rattle.std.specs.Prelude.{ℕ, ◌+◌, ◌-◌, ◌*◌, ◌^◌, ◌≡◌, refl, true, false, List, [], ◌∷◌, ◌++◌, replicate}
-use Rattle.units.specs.declared.Event.{Event}
 use Rattle.units.specs.declared.Event.TheVariants.{Never, On}
 use Rattle.units.specs.declared.Module.TheVariants.{Bench, Handheld}
-use Rattle.units.specs.Time.{clock, time}
+use Rattle.units.specs.Time.{clock}
 use Rattle.units.specs.Module.{module_of}
 use Rattle.speed.specs.declared.SpeedTable.{SpeedTable}
 use Rattle.speed.specs.Table.{table, grade_133, table_fits}
@@ -13,10 +12,7 @@ use Rattle.layout.specs.Commands.{column_on}
 use Rattle.layout.specs.Bytes.{has_pins, lane_masks, record_from, records_of}
 use Rattle.mode.specs.Word.{length_of}
 use Rattle.mode.specs.Order.{beat_column}
-use Rattle.bursts.specs.declared.Burst.{Burst}
-use Rattle.bursts.specs.declared.Bus.{Bus}
 use Rattle.bursts.specs.declared.Cells.{Cells}
-use Rattle.bursts.specs.declared.Beat.{Beat}
 use Rattle.bursts.specs.declared.Beat.TheVariants.{Quiet, Stores, Drives}
 use Rattle.bursts.specs.Burst.{has_beat, write_beat, read_beat, finished}
 use Rattle.bursts.specs.Bus.{
@@ -34,8 +30,7 @@ use Rattle.bursts.specs.Bus.{
 }
 use Rattle.bursts.specs.Cases.{Row, ◌gives◌, found, expected}
 use Rattle.page.specs.Store.{put_lanes, stored}
-use Rattle.rules.specs.declared.Status.TheVariants.{Open, Closed}
-use Rattle.rules.specs.declared.Bank.{Bank}
+use Rattle.rules.specs.declared.Status.TheVariants.{Open}
 use Rattle.rules.specs.declared.State.{State}
 use Rattle.rules.specs.declared.Verdict.{Verdict}
 use Rattle.rules.specs.declared.Verdict.TheVariants.{Taken, Refused}

@@ -58,6 +58,7 @@ fn register_if(x: bool, word: u16, n: Clock, old: Register) -> Register
     }
 }
 
+#[tactic(auto, unfolding(rules::specs::After::startup_after))]
 pub fn startup_after(k: Command, r: Record, n: Clock, u: StartUp) -> StartUp
     ensures { result ≡ startup_after k r n u }
 {
@@ -133,6 +134,7 @@ pub fn activated(row: u16, n: Clock) -> Bank
 }
 
 // Bank i after the command.
+#[tactic(auto, unfolding(rules::specs::After::bank_after))]
 fn bank_after(
     k: Command,
     t: SpeedTable,
@@ -171,6 +173,7 @@ fn touches(k: Command, r: Record) -> bool
 }
 
 // The banks after the command.
+#[tactic(auto, unfolding(rules::specs::After::commanded))]
 fn commanded(
     k: Command,
     t: SpeedTable,
@@ -246,6 +249,7 @@ pub fn banks_moved(
 }
 
 // The beat stores a byte in a bank of the module.
+#[tactic(auto, unfolding(crate::specs::Marks::stores_byte))]
 pub fn stores(w: Beat) -> bool
     ensures { result ≡ stores_byte w }
 {
@@ -257,6 +261,7 @@ pub fn stores(w: Beat) -> bool
 }
 
 // The bank of a WRITE's beat.
+#[tactic(auto, unfolding(crate::specs::Marks::bank_of))]
 pub fn bank_of(w: Beat) -> u8
     ensures { result ≡ bank_of w }
 {

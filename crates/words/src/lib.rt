@@ -1,6 +1,7 @@
 // The state as 94 numbers, the words, for a caller that holds it in C: each number is of one kind, and a state is written in one
 // way. `reading` takes a state from them, `writing` puts one there.
 #![tactic(auto)]
+
 ghost use Rattle.std.specs.Prelude.{◌≡◌};
 ghost use Rattle.words.specs.Words.{state_in, words_of, same, holds, put_words};
 
@@ -13,6 +14,7 @@ use rules::State;
 pub const WORDS: usize = 94;
 
 // The state that these words are read as.
+#[tactic(auto, unfolding(crate::specs::Words::state_in))]
 pub fn state(words: &[u64]) -> State
     ensures { result ≡ state_in words.now }
 {

@@ -17,6 +17,7 @@ fn number(words: &[u64], i: usize) -> u64
 }
 
 // A number that does not fit 8 bits, or 16, is read as the largest that does.
+#[tactic(auto, unfolding(crate::specs::Words::small))]
 fn small(words: &[u64], i: usize) -> u8
     ensures { result ≡ small (number_in words.now i) }
 {
@@ -27,6 +28,7 @@ fn small(words: &[u64], i: usize) -> u8
     255
 }
 
+#[tactic(auto, unfolding(crate::specs::Words::middle))]
 fn middle(words: &[u64], i: usize) -> u16
     ensures { result ≡ middle (number_in words.now i) }
 {
@@ -38,6 +40,7 @@ fn middle(words: &[u64], i: usize) -> u16
 }
 
 // 0 is no, any other number yes.
+#[tactic(auto, unfolding(crate::specs::Words::flag))]
 fn flag(words: &[u64], i: usize) -> bool
     ensures { result ≡ flag (number_in words.now i) }
 {
@@ -45,6 +48,7 @@ fn flag(words: &[u64], i: usize) -> bool
 }
 
 // A kind and a clock, from place i on.
+#[tactic(auto, unfolding(crate::specs::Words::event_in))]
 fn event(words: &[u64], i: usize) -> Event
     requires { i + 2 ≤ state_words }
     ensures { result ≡ event_in words.now i }
@@ -57,6 +61,7 @@ fn event(words: &[u64], i: usize) -> Event
     Event::On(Clock(n))
 }
 
+#[tactic(auto, unfolding(crate::specs::Words::refreshes_in))]
 fn refreshes(words: &[u64]) -> Refreshes
     ensures { result ≡ refreshes_in words.now }
 {
@@ -71,6 +76,7 @@ fn refreshes(words: &[u64]) -> Refreshes
     Refreshes::Two(n)
 }
 
+#[tactic(auto, unfolding(crate::specs::Words::register_in))]
 fn register(words: &[u64]) -> Register
     ensures { result ≡ register_in words.now }
 {
@@ -83,6 +89,7 @@ fn register(words: &[u64]) -> Register
     Register::Loaded { word, clock }
 }
 
+#[tactic(auto, unfolding(crate::specs::Words::startup_in))]
 fn startup(words: &[u64]) -> StartUp
     ensures { result ≡ startup_in words.now }
 {
@@ -97,6 +104,7 @@ fn startup(words: &[u64]) -> StartUp
 }
 
 // The burst whose nine numbers begin at `at`.
+#[tactic(auto, unfolding(crate::specs::Words::burst_in))]
 fn burst(words: &[u64], at: usize) -> Burst
     requires { at + 9 ≤ state_words }
     ensures { result ≡ burst_in words.now at }
@@ -115,6 +123,7 @@ fn burst(words: &[u64], at: usize) -> Burst
     }
 }
 
+#[tactic(auto, unfolding(crate::specs::Words::masks_in))]
 fn masks(words: &[u64]) -> Masks
     ensures { result ≡ masks_in words.now }
 {
@@ -125,6 +134,7 @@ fn masks(words: &[u64]) -> Masks
     }
 }
 
+#[tactic(auto, unfolding(crate::specs::Words::bus_in))]
 fn bus(words: &[u64]) -> Bus
     ensures { result ≡ bus_in words.now }
 {
@@ -142,6 +152,7 @@ fn bus(words: &[u64]) -> Bus
     }
 }
 
+#[tactic(auto, unfolding(crate::specs::Words::core_in))]
 pub fn core(words: &[u64]) -> Core
     ensures { result ≡ core_in words.now }
 {
@@ -162,6 +173,7 @@ pub fn core(words: &[u64]) -> Core
 }
 
 // A kind, the row and the ACTIVE clock of an open bank, and the closing time of a closed one, from place `at` on.
+#[tactic(auto, unfolding(crate::specs::Words::status_in))]
 fn status(words: &[u64], at: usize) -> Status
     requires { at + 4 ≤ state_words }
     ensures { result ≡ status_in words.now at }
@@ -180,6 +192,7 @@ fn status(words: &[u64], at: usize) -> Status
 }
 
 // The bank whose eight numbers begin at `at`.
+#[tactic(auto, unfolding(crate::specs::Words::bank_in))]
 fn bank(words: &[u64], at: usize) -> Bank
     requires { at + 8 ≤ state_words }
     ensures { result ≡ bank_in words.now at }
