@@ -24,6 +24,7 @@ pub fn state(words: &[u64]) -> State
 }
 
 // The words of this state, where the slice has their places.
+#[tactic(auto, unfolding(crate::specs::Words::words_of, crate::specs::Words::put_words))]
 pub fn put(s: State, words: &mut [u64])
     ensures { words.new ≡ put_words (words_of s) words.old }
 {
@@ -35,6 +36,7 @@ pub fn put(s: State, words: &mut [u64])
 }
 
 // All of its words.
+#[tactic(auto, unfolding(crate::specs::Words::words_of))]
 fn numbers(s: State) -> [u64; 94]
     ensures { result ≡ words_of s }
 {
@@ -44,6 +46,7 @@ fn numbers(s: State) -> [u64; 94]
 }
 
 // The same numbers, and as many.
+#[tactic(auto, unfolding(crate::specs::Words::same))]
 fn same(a: &[u64], b: &[u64]) -> bool
     ensures { result ≡ same a.now b.now }
 {
@@ -61,6 +64,7 @@ fn same(a: &[u64], b: &[u64]) -> bool
 }
 
 // These words are as many as a state has, and are those of the state that they are read as.
+#[tactic(auto, unfolding(crate::specs::Words::holds))]
 pub fn holds(words: &[u64]) -> bool
     ensures { result ≡ holds words.now }
 {

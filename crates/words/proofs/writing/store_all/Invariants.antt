@@ -1,22 +1,13 @@
--- `words::writing::store_all` meets its contract: what is left, stored in turn, gives what all the numbers give.
-use Prim.Native.Nat.{◌+◌, ◌-◌, ◌≤◌}
-use native.Mathlib.Omega.{arith}
-use mathlib.Core.Path.{◌≡◌, refl, ap, sym, ◌∙◌}
-use lib.ListN.{length, drop, length-set}
+-- `words::writing::store_all`: what is left, stored in turn, gives what all the numbers give.
+use Rattle.std.proofs.Common.{◌≡◌, ◌+◌, ◌-◌, ◌≤◌, length, drop}
 use lib.Seq.{sets}
-use borrow.Author.Rules.{rules}
-use Rattle.words.proofs.Stores.{none_stored, next_stored, all_stored}
 use Rattle.words.proofs.writing.store_all.Given as goal
 
 abbrev pub invariant-loop-i : goal.invariant-loop-i
-invariant-loop-i l = ?
+invariant-loop-i l =
+    (l.i ≤ length l.numbers)
+    × (sets l.initial.words l.at l.numbers ≡ sets l.words (l.at + l.i) (drop l.i l.numbers))
+    × (length l.words ≡ length l.initial.words)
 
 abbrev pub decreases-loop-i : goal.decreases-loop-i
-decreases-loop-i l = ?
-
--- OLD:
--- abbrev invariant-loop : tie.invariant-loop
--- invariant-loop words₀ at numbers i₀ words i =
---     (i ≤ length numbers) × (sets words₀ at numbers ≡ sets words (at + i) (drop i numbers)) × (length words ≡ length words₀)
--- abbrev decreases-loop : tie.decreases-loop
--- decreases-loop words₀ at numbers i₀ words i = length numbers - i
+decreases-loop-i l = length l.numbers - l.i
