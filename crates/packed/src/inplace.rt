@@ -83,6 +83,7 @@ fn ask_command(t: SpeedTable, c: Core, held: &[u64; 32], r: Record, n: Clock, mo
 }
 
 // May record r stand on clock n?
+#[tactic(auto, unfolding(rules::specs::Rules::rules))]
 pub fn ask(t: SpeedTable, c: Core, held: &[u64; 32], r: Record, n: Clock) -> Verdict
     requires { Call t c (banks_in held.now) r × Reach c.period n }
     ensures { result ≡ first_broken (rules t (core_module c) c.period (found c (banks_in held.now) n) r n (at c.period n)) }
@@ -117,6 +118,7 @@ pub fn move_bus(
 
 // The banks after the command. ACTIVE, and a READ or WRITE with auto precharge, change their own alone; LOAD MODE, AUTO REFRESH and
 // PRECHARGE are seldom, and take the four.
+#[tactic(auto, unfolding(rules::specs::After::commanded))]
 pub fn move_banks(
     k: Command,
     t: SpeedTable,
@@ -148,6 +150,7 @@ pub fn move_banks(
 }
 
 // A byte was stored on clock n, where the beat stores one.
+#[tactic(auto, unfolding(rules::specs::After::mark_banks))]
 pub fn mark_bank(beat: Beat, n: Clock, held: &mut [u64; 32])
     requires { Packed held.old }
     ensures { Held held.new (mark_banks beat n (banks_in held.old)) }

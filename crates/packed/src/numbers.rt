@@ -10,6 +10,7 @@ ghost use Rattle.words.specs.Words.{event_kind, event_number, status_kind, statu
 use rules::{Bank, Status, banks};
 use units::{Clock, Event, Ps};
 
+#[tactic(auto, unfolding(crate::specs::Packed::event_in))]
 fn event_in(kind: u64, n: u64) -> Event
     ensures { result ≡ event_in kind n }
 {
@@ -19,6 +20,7 @@ fn event_in(kind: u64, n: u64) -> Event
     Event::On(Clock(n))
 }
 
+#[tactic(auto, unfolding(crate::specs::Packed::status_in))]
 fn status_in(kind: u64, row: u64, n: u64, t: u64) -> Status
     ensures { result ≡ status_in kind row n t }
 {
@@ -42,6 +44,7 @@ fn place(i: u8) -> usize
 }
 
 // The status of bank i.
+#[tactic(auto, unfolding(crate::specs::Packed::bank_in))]
 pub fn status(held: &[u64; 32], i: u8) -> Status
     ensures { result ≡ (bank_in held.now (i % 4)).status }
 {
@@ -50,6 +53,7 @@ pub fn status(held: &[u64; 32], i: u8) -> Status
 }
 
 // Bank i.
+#[tactic(auto, unfolding(crate::specs::Packed::bank_in))]
 pub fn bank(held: &[u64; 32], i: u8) -> Bank
     ensures { result ≡ bank_in held.now (i % 4) }
 {
