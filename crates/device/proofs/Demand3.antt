@@ -1,13 +1,13 @@
 -- DEMAND 3 of the call of many records, with its page and beats: from the demand by records. Assumes nothing.
-use Prim.Native.Nat.{ℕ, zero, suc, ◌+◌, ◌*◌, ◌/◌, ◌%◌, ◌≤◌}
+use Prim.Native.Nat.{ℕ, zero, suc, ◌*◌, ◌/◌, ◌%◌, ◌≤◌}
 use native.Mathlib.Nat.{le_trans}
 use native.Mathlib.Omega.{arith}
-use mathlib.Core.Path.{◌≡◌, refl, ap, sym, subst, ◌∙◌}
+use mathlib.Core.Path.{◌≡◌, refl, ap, sym, ◌∙◌}
 use mathlib.Core.Bool.{Bool, true, false, cond}
-use mathlib.Core.List.{List, [], ◌∷◌, ◌++◌}
+use mathlib.Core.List.{List, [], ◌∷◌}
 use lib.Dec.{leb, eqb}
 use lib.ListN.{length, take, drop, length-take, length-append}
-use borrow.Author.Tests.{le-leb, eq-eqb, leb-false}
+use borrow.Author.Tests.{le-leb, eq-eqb}
 use Rattle.units.specs.declared.Module.{Module}
 use Rattle.speed.specs.declared.SpeedTable.{SpeedTable}
 use Rattle.speed.specs.Table.{table_fits}
@@ -22,13 +22,13 @@ use Rattle.rules.specs.Numbers.{first_broken}
 use Rattle.rules.specs.Parts.{state_module}
 use Rattle.rules.specs.OneRecord.{state_rules}
 use Rattle.rules.specs.After.{next}
-use Rattle.rules.specs.Run.{Line, Run, run, page_after}
-use Rattle.rules.specs.Report.{lines_into, Left, left, ran, fold, records_rules, room, above_number_max, past_room, within_room, records_in, records_call, call_run}
+use Rattle.rules.specs.Run.{Line, run, page_after}
+use Rattle.rules.specs.Report.{lines_into, Left, ran, fold, records_rules, room, above_number_max, past_room, within_room, records_in, records_call}
 use Rattle.rules.specs.Harder.{NowhereHarder}
-use Rattle.rules.specs.Demand3.{taken_in, up_to_stop, Demand3, Demand3Holds}
+use Rattle.rules.specs.Demand3.{taken_in, Demand3, Demand3Holds}
 use Rattle.rules.proofs.Easier.{setup}
 use Rattle.rules.proofs.Runs.{by_answer}
-use Rattle.rules.proofs.Demand3.{Follows, demand_3, demand_3_before}
+use Rattle.rules.proofs.Demand3.{demand_3, demand_3_before}
 use Rattle.device.proofs.FoldRun.{from_run, fold_run}
 use Rattle.admitting.proofs.Ladder.{records_ladder}
 use Rattle.device.proofs.Starts.{run_in, run_out, most_within, most_room, entry_of, records_within, records_refused, records_entered, records_past}

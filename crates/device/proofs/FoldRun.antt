@@ -1,6 +1,6 @@
 -- What judging records leaves, by its run and by its first record's answer. Assumes nothing.
 use Prim.Native.Nat.{ℕ}
-use mathlib.Core.Path.{◌≡◌, refl, ap, sym, ◌∙◌}
+use mathlib.Core.Path.{◌≡◌, refl, ap}
 use mathlib.Core.List.{List, [], ◌∷◌}
 use Rattle.layout.specs.declared.Record.{Record}
 use Rattle.bursts.specs.declared.Beat.{Beat}
@@ -9,10 +9,10 @@ use Rattle.rules.specs.declared.Setup.{Setup}
 use Rattle.rules.specs.declared.Verdict.TheVariants.{Taken, Refused}
 use Rattle.rules.specs.Rules.{ask}
 use Rattle.rules.specs.After.{core_from, core_after, own_beat, next}
-use Rattle.rules.specs.Run.{Run, line, with_line, run, page_after, page_left, all_taken}
+use Rattle.rules.specs.Run.{Run, line, run, page_after, page_left, all_taken}
 use Rattle.rules.specs.Report.{put_line, lines_into, Left, left, ran, fold}
 use Rattle.rules.proofs.Runs.{run_taken, run_refused, page_next}
-use Rattle.device.specs.Engine.{went, Gone, gone, run_left, went_by}
+use Rattle.device.specs.Engine.{went, gone, run_left, went_by}
 
 -- ── Page and beats ──
 

@@ -1,6 +1,6 @@
 -- What a record leaves, part by part, as the loop over records changes it in place. Assumes nothing.
 use Prim.Native.Nat.{ℕ, ◌+◌}
-use mathlib.Core.Path.{◌≡◌, refl, sym, ap, ◌∙◌}
+use mathlib.Core.Path.{◌≡◌, refl, sym}
 use mathlib.Core.Bool.{Bool, false, true≢false, ◌||◌}
 use mathlib.Core.List.{List}
 use Rattle.units.specs.declared.Clock.{Clock}
@@ -30,7 +30,6 @@ use Rattle.bursts.specs.Bus.{masks_after, write_after, bus_after, beat_on}
 use Rattle.bursts.proofs.Untouched.{can_end, reads_untouched}
 use Rattle.rules.specs.declared.StartUp.{StartUp}
 use Rattle.rules.specs.declared.Bank.{Bank}
-use Rattle.rules.specs.declared.Core.{Core}
 use Rattle.rules.specs.declared.State.{State}
 use Rattle.rules.specs.declared.Setup.{Setup}
 use Rattle.rules.specs.Parts.{clock_of, word_in}

@@ -1,12 +1,11 @@
 -- RECORDS OF TWO SLICES IN TURN ARE THE RECORDS OF BOTH JOINED. Assumes nothing.
-use Prim.Native.Nat.{ℕ, zero, suc, ◌+◌, ◌-◌, ◌*◌, ◌/◌, ◌%◌, ◌≤◌, ◌<◌}
+use Prim.Native.Nat.{ℕ, zero, suc, ◌+◌, ◌*◌, ◌/◌, ◌%◌, ◌≤◌}
 use native.Mathlib.Omega.{arith}
-use native.Mathlib.Numerals.{add-one}
 use native.Mathlib.Nat.{zero-add, suc-add}
 use mathlib.Core.Path.{◌≡◌, refl, ap, sym, subst, ◌∙◌}
-use mathlib.Core.Bool.{Bool, true, false, cond}
+use mathlib.Core.Bool.{Bool, true, cond}
 use mathlib.Core.List.{List, [], ◌∷◌, ◌++◌}
-use lib.Dec.{leb, eqb}
+use lib.Dec.{leb}
 use lib.ListN.{length, take, drop, length-append, length-drop}
 use lib.Seq.{take-append-le, drop-append-le}
 use borrow.Author.Tests.{le-leb, eq-eqb}
@@ -27,9 +26,9 @@ use Rattle.rules.specs.After.{core_from, core_after, own_beat, next}
 use Rattle.rules.specs.Run.{line, run, state_left}
 use Rattle.rules.specs.Fits.{number_max}
 use Rattle.rules.specs.OneRecord.{state_rules}
-use Rattle.rules.specs.Report.{put_line, Left, left, ran, fold, records_rules, room, within_room, records_in, records_call, call_run, records_next}
+use Rattle.rules.specs.Report.{put_line, Left, left, ran, fold, records_rules, room, records_in, records_call, records_next}
 use Rattle.rules.proofs.Runs.{next_number, page_next}
-use Rattle.device.specs.Engine.{Gone, gone, went, went_by}
+use Rattle.device.specs.Engine.{Gone, went_by}
 use Rattle.device.proofs.FoldRun.{went_taken, went_refused, went_none}
 use Rattle.admitting.proofs.Ladder.{records_ladder}
 use Rattle.device.proofs.Starts.{run_in, records_entered}

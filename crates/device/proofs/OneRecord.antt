@@ -1,15 +1,14 @@
 -- The engine on one record is asking and taking it. Assumes nothing.
-use Prim.Native.Nat.{ℕ, suc, ◌*◌, ◌/◌, ◌%◌, ◌≤◌}
+use Prim.Native.Nat.{ℕ, ◌/◌, ◌%◌}
 use native.Mathlib.Omega.{arith}
 use mathlib.Core.Path.{◌≡◌, refl, ap, sym, ◌∙◌}
 use mathlib.Core.Bool.{true, false, cond}
 use mathlib.Core.List.{List, [], ◌∷◌}
 use lib.Dec.{leb, eqb}
-use lib.ListN.{length, take}
+use lib.ListN.{length}
 use lib.Seq.{take_all}
 use borrow.Author.Tests.{eq-eqb, ne_eqb, le-leb}
 use Rattle.units.specs.declared.Module.{Module}
-use Rattle.layout.specs.declared.Record.{Record}
 use Rattle.layout.specs.Bytes.{read_record, record_number, record_of, records_of}
 use Rattle.layout.proofs.ReadBack.{sixteen_pass}
 use Rattle.bursts.specs.declared.Beat.TheVariants.{Quiet}
@@ -22,10 +21,10 @@ use Rattle.rules.specs.declared.Verdict.TheVariants.{Taken, Refused}
 use Rattle.rules.specs.Parts.{state_module}
 use Rattle.rules.specs.Numbers.{first_broken, number_of, interval_of}
 use Rattle.rules.specs.Rules.{ask}
-use Rattle.rules.specs.Run.{Run, run, page_left, state_left, beat_left}
-use Rattle.rules.specs.OneRecord.{state_rules, entry_rules, record_for, answer_of, found_of, ask_call, Took, took, left_by, take_record, take_call}
-use Rattle.rules.specs.Report.{Left, ran, fold, records_rules, room, within_room, records_in, records_lent, call_run, records_next}
-use Rattle.rules.proofs.Runs.{run_taken, run_refused, page_same, state_same}
+use Rattle.rules.specs.Run.{Run, run, state_left, beat_left}
+use Rattle.rules.specs.OneRecord.{entry_rules, record_for, answer_of, found_of, ask_call, Took, took, take_call}
+use Rattle.rules.specs.Report.{Left, ran, fold, records_rules, room, records_in, records_lent, call_run, records_next}
+use Rattle.rules.proofs.Runs.{run_taken, run_refused, state_same}
 use Rattle.rules.proofs.OneRecord.{asked_entered, took_entered, asked_out, took_out}
 use Rattle.device.specs.Engine.{reported_by}
 use Rattle.device.proofs.FoldRun.{from_run, fold_run}

@@ -21,6 +21,7 @@ use taking::leaving;
 use units::{Clock, Event, Module};
 
 // The words of the record at the start of `bytes`; with under 16 bytes there is none, and zeros stand for them.
+#[tactic(auto, unfolding(crate::specs::InPlace::words_ahead))]
 fn words_of(bytes: &[u8]) -> Words
     ensures { result ≡ words_ahead bytes.now }
 {
@@ -62,6 +63,7 @@ fn core_of(c: Core, number: u64, last: Event, startup: StartUp, bus: Bus) -> Cor
 }
 
 // Record k's beat and clock. Where the beat has no place, the clock has none.
+#[tactic(auto, unfolding(rules::specs::Report::put_line))]
 fn report(beats: &mut [u64], k: u64, beat: Beat, n: Clock)
     requires { k ≤ number_max }
     ensures { beats.new ≡ put_line k (record { clock = n; beat = beat }) beats.old }
@@ -179,6 +181,7 @@ fn above_max(w: Went) -> Went
 }
 
 // The records of `bytes` from state s. Number 7 is asked of a page of `lent` bytes: asking lends none to store in.
+#[tactic(auto, unfolding(rules::specs::Report::records_lent, rules::specs::Report::call_run))]
 pub fn judge(
     u: Setup,
     s: State,

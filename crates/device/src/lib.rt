@@ -1,5 +1,6 @@
 // The device: a record asked, taken, or both, and records in turn, judged from a state that goes in by value.
 #![tactic(auto)]
+
 use bursts::Beat;
 use rules::{Answer, Ran, State, Verdict};
 

@@ -15,6 +15,7 @@ fn cells_word(kind: u8, c: Cells) -> u64
 }
 
 // 0 none, 1 read, 2 write.
+#[tactic(auto, unfolding(rules::specs::Report::beat_word))]
 pub fn beat_word(b: Beat) -> u64
     ensures { result ≡ beat_word b }
 {
