@@ -1,16 +1,13 @@
 -- Beat lines, laid part by part and record by record. Assumes nothing.
-use Prim.Native.Nat.{ℕ, zero, suc, ◌+◌, ◌*◌, ◌-◌, ◌/◌, ◌%◌, ◌^◌, ◌≤◌, ◌<◌}
-use mathlib.Core.Path.{◌≡◌, refl, ap, ◌∙◌}
-use mathlib.Core.Bool.{Bool, true, false}
+use Prim.Native.Nat.{ℕ, suc, ◌+◌, ◌*◌, ◌/◌, ◌≤◌, ◌<◌}
+use mathlib.Core.Path.{◌≡◌, refl}
 use mathlib.Core.List.{List, [], ◌∷◌, ◌++◌}
-use native.Mathlib.Numerals.{add-one}
 use native.Mathlib.Omega.{arith}
-use lib.Dec.{eqb}
 use lib.ListN.{length, drop, get_or, length-drop}
 use lib.Seq.{drop-cons}
 use Rattle.lines.specs.Text.{hex, fields, beat_line, beat_text, beat_lines}
 use Rattle.lines.specs.Place.{Laid, put, lay}
-use Rattle.lines.proofs.Laying.{lay_append, lay_one}
+use Rattle.lines.proofs.Laying.{lay_append}
 
 pub line_parts : (letter : ℕ) (ns : List ℕ) (lanes : ℕ) (l : Laid)
     → put 10 (lay (hex lanes) (put 32 (lay (fields ns) (put letter l)))) ≡ lay (beat_line letter ns lanes) l

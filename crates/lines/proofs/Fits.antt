@@ -1,5 +1,5 @@
 -- Where a text fits, the buffer holds it and nothing is dropped; how long the texts are. Assumes nothing.
-use Prim.Native.Nat.{ℕ, zero, suc, ◌+◌, ◌*◌, ◌/◌, ◌%◌, ◌^◌, ◌≤◌, ◌<◌}
+use Prim.Native.Nat.{ℕ, zero, suc, ◌+◌, ◌*◌, ◌/◌, ◌%◌, ◌^◌, ◌≤◌}
 use mathlib.Core.Path.{◌≡◌, refl, ap, sym, ◌∙◌}
 use mathlib.Core.Bool.{Bool, true, false, cond}
 use mathlib.Core.List.{List, [], ◌∷◌, ◌++◌}
@@ -9,7 +9,7 @@ use borrow.Author.Tests.{lt-ltb}
 use lib.Dec.{ltb, eqb}
 use lib.ListN.{length, take, drop, set, length-set, length-append, length-take}
 use lib.Seq.{sets, sets-eq, take_at}
-use Rattle.lines.specs.Text.{glyph, digits, field, fields, hex, beat_line, letter_of, beat_text, beat_lines, ok_line, refused_line, record_in, number_in, interval_in, last_line, report}
+use Rattle.lines.specs.Text.{glyph, digits, fields, beat_line, beat_text, beat_lines, ok_line, refused_line, record_in, number_in, interval_in, last_line, report}
 use Rattle.lines.specs.Place.{Laid, laid, put, lay, Holds}
 
 -- ── A text that fits ──

@@ -7,6 +7,7 @@ ghost use Rattle.lines.specs.Text.{glyph, digits, decimal, hex, field, fields, b
 ghost use Rattle.lines.specs.Place.{laid, put, lay};
 
 // One byte.
+#[tactic(auto, unfolding(crate::specs::Place::put))]
 fn put(byte: u8, buf: &mut [u8], at: usize) -> usize
     ensures { laid buf.new result ≡ put byte (laid buf.old at) }
 {
@@ -18,6 +19,7 @@ fn put(byte: u8, buf: &mut [u8], at: usize) -> usize
 }
 
 // The digit of a number below 16.
+#[tactic(auto, unfolding(crate::specs::Text::glyph))]
 fn glyph(d: u64) -> u8
     requires { d < 16 }
     ensures { result ≡ glyph d }
@@ -26,6 +28,7 @@ fn glyph(d: u64) -> u8
 }
 
 // The last `places` decimal digits of n, with no zeros in front.
+#[tactic(auto, using(crate::proofs::Decimals::no_place, crate::proofs::Decimals::one_digit, crate::proofs::Decimals::more_digits))]
 fn put_digits(places: usize, n: u64, buf: &mut [u8], at: usize) -> usize
     ensures { laid buf.new result ≡ lay (digits places n) (laid buf.old at) }
 {
@@ -47,6 +50,7 @@ fn put_decimal(n: u64, buf: &mut [u8], at: usize) -> usize
 }
 
 // A text, byte by byte.
+#[tactic(auto, using(crate::proofs::Laying::text_turn, crate::proofs::Laying::text_done))]
 pub fn put_text(text: &[u8], buf: &mut [u8], at: usize) -> usize
     ensures { laid buf.new result ≡ lay text.now (laid buf.old at) }
 {
@@ -60,6 +64,7 @@ pub fn put_text(text: &[u8], buf: &mut [u8], at: usize) -> usize
 }
 
 // A space and a number.
+#[tactic(auto, unfolding(crate::specs::Place::lay))]
 fn put_field(n: u64, buf: &mut [u8], at: usize) -> usize
     ensures { laid buf.new result ≡ lay (field n) (laid buf.old at) }
 {
@@ -68,6 +73,7 @@ fn put_field(n: u64, buf: &mut [u8], at: usize) -> usize
 }
 
 // Numbers, a space before each.
+#[tactic(auto, using(crate::proofs::Laying::fields_turn, crate::proofs::Laying::fields_done))]
 pub fn put_fields(numbers: &[u64], buf: &mut [u8], at: usize) -> usize
     ensures { laid buf.new result ≡ lay (fields numbers.now) (laid buf.old at) }
 {
@@ -81,6 +87,7 @@ pub fn put_fields(numbers: &[u64], buf: &mut [u8], at: usize) -> usize
 }
 
 // Lanes as two hex digits, lane 7 the top bit.
+#[tactic(auto, unfolding(crate::specs::Place::lay))]
 fn put_hex(lanes: u8, buf: &mut [u8], at: usize) -> usize
     ensures { laid buf.new result ≡ lay (hex lanes) (laid buf.old at) }
 {
@@ -89,6 +96,7 @@ fn put_hex(lanes: u8, buf: &mut [u8], at: usize) -> usize
 }
 
 // A beat's line, with its letter and its numbers: record, clock, bank, row, column.
+#[tactic(auto, using(crate::proofs::BeatLines::line_parts))]
 fn put_beat_line(letter: u8, numbers: &[u64], lanes: u8, buf: &mut [u8], at: usize) -> usize
     ensures { laid buf.new result ≡ lay (beat_line letter numbers.now lanes) (laid buf.old at) }
 {
@@ -107,6 +115,7 @@ fn letter(kind: u64) -> u8
 }
 
 // The line of record k, from the two words that the judge writes of it; nothing where they hold no beat.
+#[tactic(auto, unfolding(crate::specs::Text::beat_text, crate::specs::Place::lay))]
 fn put_beat(k: u64, word: u64, clock: u64, buf: &mut [u8], at: usize) -> usize
     ensures { laid buf.new result ≡ lay (beat_text k word clock) (laid buf.old at) }
 {
@@ -123,6 +132,7 @@ fn put_beat(k: u64, word: u64, clock: u64, buf: &mut [u8], at: usize) -> usize
 }
 
 // The lines of the records from 0 on, from two words each.
+#[tactic(auto, using(crate::proofs::BeatLines::beats_turn, crate::proofs::BeatLines::beats_done))]
 pub fn put_beats(words: &[u64], buf: &mut [u8], at: usize) -> usize
     ensures { laid buf.new result ≡ lay (beat_lines 0 words.now) (laid buf.old at) }
 {
@@ -136,6 +146,7 @@ pub fn put_beats(words: &[u64], buf: &mut [u8], at: usize) -> usize
 }
 
 // `OK` with the record count.
+#[tactic(auto, using(crate::proofs::Reports::ok_parts))]
 fn put_ok(count: u64, buf: &mut [u8], at: usize) -> usize
     ensures { laid buf.new result ≡ lay (ok_line count) (laid buf.old at) }
 {
@@ -145,6 +156,7 @@ fn put_ok(count: u64, buf: &mut [u8], at: usize) -> usize
 }
 
 // `REFUSED` with its numbers: record, number, interval.
+#[tactic(auto, using(crate::proofs::Reports::refused_parts))]
 fn put_refused(numbers: &[u64], buf: &mut [u8], at: usize) -> usize
     ensures { laid buf.new result ≡ lay (refused_line numbers.now) (laid buf.old at) }
 {
@@ -154,6 +166,7 @@ fn put_refused(numbers: &[u64], buf: &mut [u8], at: usize) -> usize
 }
 
 // The last line, from the judge's answer.
+#[tactic(auto, unfolding(crate::specs::Text::last_line))]
 pub fn put_last_line(answer: u64, buf: &mut [u8], at: usize) -> usize
     ensures { laid buf.new result ≡ lay (last_line answer) (laid buf.old at) }
 {
@@ -175,6 +188,7 @@ fn accepted_words(answer: u64, lent: usize) -> usize
 }
 
 // All that is printed of a trace, from the judge's words and its answer.
+#[tactic(auto, using(crate::proofs::Reports::report_parts))]
 pub fn report(words: &[u64], answer: u64, buf: &mut [u8]) -> usize
     ensures { laid buf.new result ≡ lay (report words.now answer) (laid buf.old 0) }
 {
