@@ -3,10 +3,12 @@
 // A case is a byte with its number, a byte with its count of records, the thirteen numbers of its table in four bytes each, and
 // its trace; host/bench_cases.py writes them.
 #![tactic(auto)]
-ghost use Rattle.std.specs.Prelude.{◌≤◌, ◌<◌};
+ghost use Rattle.std.specs.Prelude.{◌≤◌, ◌<◌, length, IfOk};
 
 use rules::Setup;
 use speed::SpeedTable;
+use std::io;
+use std::io::Read;
 use units::{Clock, Ps};
 
 fn wide(x: u8) -> u64
@@ -56,80 +58,88 @@ fn table(b: &[u8]) -> SpeedTable {
 }
 
 // A beat from its two words; nothing where there is none.
-fn print_beat(word: u64, clock: u64) {
+fn print_beat(rt: &impl Print, word: u64, clock: u64) -> io::Result<()> {
     let kind = word / 281_474_976_710_656 % 256;
     if kind == 0 {
-        return;
+        return Ok(());
     }
-    if kind == 1 {
-        io::write_all(1, b" R ");
-    } else {
-        io::write_all(1, b" W ");
-    }
-    io::print_decimal(1, clock);
-    io::write_all(1, b" ");
-    io::print_decimal(1, word / 256 % 65_536);
-    io::write_all(1, b" ");
-    io::print_hex(1, word % 256, 2);
+    let letter = if kind == 1 { "R" } else { "W" };
+    let column = word / 256 % 65_536;
+    let lanes = word % 256;
+    print!(rt; " {letter} {clock} {column} {lanes:02x}")
 }
 
-fn print_beats(beats: &[u64; 128]) {
+fn print_beats(rt: &impl Print, beats: &[u64; 128]) -> io::Result<()> {
     let mut k = 0;
     while k < 64 {
-        print_beat(beats[2 * k], beats[2 * k + 1]);
+        print_beat(rt, beats[2 * k], beats[2 * k + 1])?;
         k += 1;
     }
+    Ok(())
 }
 
 // A case's number, and the verdict's number, record and interval.
-fn print_answer(case: u64, answer: u64) {
-    io::print_decimal(1, case);
-    io::write_all(1, b" ");
-    io::print_decimal(1, answer % 256);
-    io::write_all(1, b" ");
-    io::print_decimal(1, answer / 65_536);
-    io::write_all(1, b" ");
-    io::print_decimal(1, answer / 256 % 256);
+fn print_answer(rt: &impl Print, case: u64, answer: u64) -> io::Result<()> {
+    let number = answer % 256;
+    let record = answer / 65_536;
+    let interval = answer / 256 % 256;
+    print!(rt; "{case} {number} {record} {interval}")
 }
 
-fn run_case(case: u64, u: Setup, trace: &[u8]) {
+fn run_case(rt: &impl Print, case: u64, u: Setup, trace: &[u8]) -> io::Result<()> {
     let mut page = [0u8; 16384];
     let mut beats = [0u64; 128];
     let ran = hawsehole::judge(u, trace, &mut page, &mut beats);
-    print_answer(case, hawsehole::answer_word(ran));
-    print_beats(&beats);
-    io::write_all(1, b"\n");
+    print_answer(rt, case, hawsehole::answer_word(ran))?;
+    print_beats(rt, &beats)?;
+    println!(rt)
 }
 
 // Runs the first case of these bytes, and answers how many bytes it has; 0 where they hold no whole case.
-fn first_case(cases: &[u8]) -> usize {
+fn first_case(rt: &impl Print, cases: &[u8]) -> io::Result<usize> {
     let count = byte(cases, 1) as usize;
     let end = 70 + 16 * count;
     if cases.len() < end {
-        return 0;
+        return Ok(0);
     }
     let table = table(cases);
     let u = Setup { table };
-    run_case(byte(cases, 0), u, &cases[54..end]);
-    end
+    run_case(rt, byte(cases, 0), u, &cases[54..end])?;
+    Ok(end)
 }
 
-fn all_cases(cases: &[u8]) {
+fn all_cases(rt: &impl Print, cases: &[u8]) -> io::Result<()> {
     let mut at = 0;
     while at < cases.len() {
-        let used = first_case(&cases[at..]);
+        let used = first_case(rt, &cases[at..])?;
         if used == 0 {
-            return;
+            return Ok(());
         }
         if cases.len() - at < used {
-            return;
+            return Ok(());
         }
         at += used;
     }
+    Ok(())
 }
 
-fn main() {
-    let mut buf = io::large_buffer();
-    let n = io::read_full(0, &mut buf);
-    all_cases(&buf[..n]);
+// Reads until the buffer is full or the input ends, and answers how many bytes it put at the buffer's start.
+fn read_full(input: &mut impl Read, buf: &mut [u8]) -> io::Result<usize>
+    ensures { IfOk result (λ n. n ≤ length buf.new) }
+{
+    let mut done = 0;
+    while done < buf.len() {
+        let n = input.read(&mut buf[done..])?;
+        if n == 0 {
+            break;
+        }
+        done += n;
+    }
+    Ok(done)
+}
+
+fn main(rt: HostRuntime) -> io::Result<()> {
+    let mut buf = [0u8; 65_536];
+    let n = read_full(&mut rt.stdin(), &mut buf)?;
+    all_cases(&rt, &buf[..n])
 }

@@ -1,7 +1,7 @@
 // Reads a trace on standard input, as `judge` does, and says the first illegal record in words: its command and clock, the rule that it
 // breaks, and the times involved.
 #![tactic(auto)]
-ghost use Rattle.std.specs.Prelude.{◌≡◌, [], replicate};
+ghost use Rattle.std.specs.Prelude.{◌≡◌, ◌≤◌, [], length, replicate, IfOk};
 ghost use Rattle.units.specs.Module.{page_bytes};
 ghost use Rattle.hawsehole.specs.Numbers.{whole_call};
 
@@ -10,6 +10,8 @@ use device::Device;
 use layout::{Header, HeaderBytes};
 use rules::{Ran, Setup};
 use speed::SpeedTable;
+use std::io;
+use std::io::{Read, Write};
 use units::{Module, PAGE_BYTES, Ps};
 
 mod events;
@@ -78,17 +80,33 @@ fn explain_input(input: &[u8], out: &mut [u8]) -> usize {
 }
 
 // Writes so many bytes of the buffer.
-fn say(out: &[u8], bytes: usize) {
+fn say(to: &mut impl Write, out: &[u8], bytes: usize) -> io::Result<()> {
     if bytes <= out.len() {
-        io::write_all(1, &out[0..bytes]);
+        return to.write_all(&out[0..bytes]);
     }
+    Ok(())
 }
 
-fn main() {
+// Reads until the buffer is full or the input ends, and answers how many bytes it put at the buffer's start.
+fn read_full(input: &mut impl Read, buf: &mut [u8]) -> io::Result<usize>
+    ensures { IfOk result (λ n. n ≤ length buf.new) }
+{
+    let mut done = 0;
+    while done < buf.len() {
+        let n = input.read(&mut buf[done..])?;
+        if n == 0 {
+            break;
+        }
+        done += n;
+    }
+    Ok(done)
+}
+
+fn main(rt: HostRuntime) -> io::Result<()> {
     // one byte more than the longest trace, to tell a longer one
     let mut input = [0u8; TRACE_MAX + 1];
-    let n = io::read_full(0, &mut input);
+    let n = read_full(&mut rt.stdin(), &mut input)?;
     let mut out = [0u8; TEXT_MAX];
     let bytes = explain_input(&input[..n], &mut out);
-    say(&out, bytes);
+    say(&mut rt.stdout(), &out, bytes)
 }

@@ -114,7 +114,7 @@ fn put_rule(line: u8, buf: &mut [u8], at: usize) -> usize {
         The clock period is below tCK of the chosen latency.\n\
         An auto precharge burst is unfinished.\n\
         The data bus is not clear for a WRITE: a READ drives it on this clock or on the one before.\n\
-        Auto precharge is asked of a full_page burst.\n\
+        Auto precharge is asked of a full-page burst.\n\
         Auto precharge would start later than tRAS max after the ACTIVE.\n\
         Before the first PRECHARGE ALL only NOP and COMMAND INHIBIT are allowed.\n\
         Before two AUTO REFRESH only PRECHARGE and AUTO REFRESH are allowed.\n\

@@ -1,12 +1,14 @@
 // Reads a trace on standard input, judges it by its header's grade from a page of zeros, and prints each reported beat and the
 // verdict.
 #![tactic(auto)]
-ghost use Rattle.std.specs.Prelude.{◌≡◌};
+ghost use Rattle.std.specs.Prelude.{◌≡◌, ◌≤◌, length, IfOk};
 ghost use Rattle.lines.specs.Place.{Holds};
 ghost use Rattle.judge.specs.Output.{grade_of, printed, output};
 
 use layout::HeaderBytes;
 use speed::SpeedTable;
+use std::io;
+use std::io::{Read, Write};
 use units::PAGE_BYTES;
 
 // The longest trace: a header and 4,095 records.
@@ -66,11 +68,26 @@ fn print_input(input: &[u8], out: &mut [u8; TEXT_MAX]) -> usize
     print_trace(input, out)
 }
 
-fn main() {
+// Reads until the buffer is full or the input ends, and answers how many bytes it put at the buffer's start.
+fn read_full(input: &mut impl Read, buf: &mut [u8]) -> io::Result<usize>
+    ensures { IfOk result (λ n. n ≤ length buf.new) }
+{
+    let mut done = 0;
+    while done < buf.len() {
+        let n = input.read(&mut buf[done..])?;
+        if n == 0 {
+            break;
+        }
+        done += n;
+    }
+    Ok(done)
+}
+
+fn main(rt: HostRuntime) -> io::Result<()> {
     // one byte more than the longest trace, to tell a longer one
     let mut input = [0u8; TRACE_MAX + 1];
-    let n = io::read_full(0, &mut input);
+    let n = read_full(&mut rt.stdin(), &mut input)?;
     let mut out = [0u8; TEXT_MAX];
     let bytes = print_input(&input[..n], &mut out);
-    io::write_all(1, &out[..bytes]);
+    rt.stdout().write_all(&out[..bytes])
 }
