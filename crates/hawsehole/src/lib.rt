@@ -114,9 +114,9 @@ fn setup_of(
     Setup { table }
 }
 
-// The whole-trace judge for C, over byte slices and the thirteen numbers of the speed table in document 01's order.
-#[unsafe(no_mangle)]
-pub extern "C" fn hawsehole_judge_beats(
+// The whole-trace judge over byte slices and the thirteen numbers of the speed table in document 01's order, as `hawsehole_c` lends it
+// to C.
+pub fn hawsehole_judge_beats(
     trace: &[u8],
     page: &mut [u8],
     beats: &mut [u64],
@@ -142,8 +142,7 @@ pub extern "C" fn hawsehole_judge_beats(
 }
 
 // The same, with no beats.
-#[unsafe(no_mangle)]
-pub extern "C" fn hawsehole_judge(
+pub fn hawsehole_judge(
     trace: &[u8],
     page: &mut [u8],
     t1: u64,

@@ -51,8 +51,7 @@ fn start_verdict(words: usize, period: u64, grade: u64, bank: u64, row: u64) -> 
 }
 
 // The state before the first record, as words.
-#[unsafe(no_mangle)]
-pub extern "C" fn hawsehole_start(
+pub fn hawsehole_start(
     state: &mut [u64],
     period: u64,
     grade: u64,
@@ -133,9 +132,8 @@ fn take(u: Setup, state: &mut [u64], bytes: &[u8], page: &mut [u8], beat: &mut [
     word
 }
 
-// The same for C, with the thirteen numbers of the speed table in document 01's order. Nothing is changed.
-#[unsafe(no_mangle)]
-pub extern "C" fn hawsehole_ask(
+// The same, with the thirteen numbers of the speed table in document 01's order. Nothing is changed.
+pub fn hawsehole_ask(
     state: &[u64],
     bytes: &[u8],
     page: &[u8],
@@ -159,8 +157,7 @@ pub extern "C" fn hawsehole_ask(
     ask(u, state, bytes, page)
 }
 
-#[unsafe(no_mangle)]
-pub extern "C" fn hawsehole_take(
+pub fn hawsehole_take(
     state: &mut [u64],
     bytes: &[u8],
     page: &mut [u8],
