@@ -3,6 +3,7 @@
 // A case is a byte with its number, a byte with its count of records, the thirteen numbers of its table in four bytes each, and
 // its trace; host/bench_cases.py writes them.
 #![tactic(auto)]
+
 ghost use Rattle.std.specs.Prelude.{◌≤◌, ◌<◌, length, IfOk};
 
 use rules::Setup;
@@ -70,10 +71,8 @@ fn print_beat(rt: &impl Print, word: u64, clock: u64) -> io::Result<()> {
 }
 
 fn print_beats(rt: &impl Print, beats: &[u64; 128]) -> io::Result<()> {
-    let mut k = 0;
-    while k < 64 {
+    for k in 0..64 {
         print_beat(rt, beats[2 * k], beats[2 * k + 1])?;
-        k += 1;
     }
     Ok(())
 }

@@ -1,6 +1,7 @@
 // Reads a trace on standard input, as `judge` does, and says the first illegal record in words: its command and clock, the rule that it
 // breaks, and the times involved.
 #![tactic(auto)]
+
 ghost use Rattle.std.specs.Prelude.{◌≡◌, ◌≤◌, [], length, replicate, IfOk};
 ghost use Rattle.units.specs.Module.{page_bytes};
 ghost use Rattle.hawsehole.specs.Numbers.{whole_call};

@@ -1,6 +1,7 @@
 // Reads a trace on standard input, judges it by its header's grade from a page of zeros, and prints each reported beat and the
 // verdict.
 #![tactic(auto)]
+
 ghost use Rattle.std.specs.Prelude.{◌≡◌, ◌≤◌, length, IfOk};
 ghost use Rattle.lines.specs.Place.{Holds};
 ghost use Rattle.judge.specs.Output.{grade_of, printed, output};
