@@ -1,0 +1,10 @@
+use Rattle.std.proofs.Common.{rules, length, ◌-◌}
+use Rattle.std.specs.Io.KnownBytes.{Consumes}
+use Rattle.judge.proofs.Reading.{both_parts, both_taken}
+use Rattle.judge.proofs.read_full.Goals as goal
+
+pub loop-done-preserved : goal.loop-done-preserved
+loop-done-preserved g c =
+    let loop = c.loop-done in
+    let parts = both_parts loop.done c.in_ok-n.n (length loop.buf - loop.done) loop.buf c.read.new.buf loop.invariant.0 c.in_ok-n.ensures.bound.0 in
+    (search rules, rw parts (both_taken _ _ _ _ _ loop.invariant.1 c.in_ok-n.ensures.bytes.0))
