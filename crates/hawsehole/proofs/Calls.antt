@@ -1,14 +1,13 @@
 -- The whole-trace call by what it finds before the first record. Assumes nothing.
-use Prim.Native.Nat.{ℕ, ◌+◌, ◌*◌, ◌/◌, ◌%◌, ◌-◌, ◌≤◌}
+use Prim.Native.Nat.{ℕ, ◌+◌, ◌*◌, ◌/◌, ◌%◌, ◌-◌}
 use native.Mathlib.Omega.{arith}
-use mathlib.Core.Path.{◌≡◌, refl, ap, sym, subst, ◌∙◌}
+use mathlib.Core.Path.{◌≡◌, ap, sym, ◌∙◌}
 use mathlib.Core.Bool.{Bool, true, false}
-use mathlib.Core.List.{List, [], ◌∷◌}
+use mathlib.Core.List.{List, ◌∷◌}
 use lib.Dec.{leb, eqb}
 use lib.ListN.{length, take, drop, length-drop}
 use lib.Seq.{take_all}
 use borrow.Author.Tests.{eq-eqb, le-leb, eqb-true}
-use Rattle.units.specs.Time.{time}
 use Rattle.layout.specs.declared.Header.{Header}
 use Rattle.layout.specs.Bytes.{header_of, read_header, header_number, records_of}
 use Rattle.layout.proofs.ReadBack.{ReadHead}
@@ -16,15 +15,14 @@ use Rattle.layout.proofs.Widths.{header_fits}
 use Rattle.rules.specs.declared.Setup.{Setup}
 use Rattle.rules.specs.declared.Verdict.{Verdict}
 use Rattle.rules.specs.declared.Verdict.TheVariants.{Taken, Refused}
-use Rattle.rules.specs.Numbers.{Rule, rule, first_broken}
-use Rattle.rules.specs.Run.{run}
+use Rattle.rules.specs.Numbers.{rule, first_broken}
 use Rattle.rules.specs.OneRecord.{state_rules}
 use Rattle.rules.specs.Report.{lines_into, left, ran, fold, records_rules, room, records_call}
 use Rattle.rules.proofs.Admitted.{fits_admitted}
 use Rattle.rules.proofs.Kept.{kept}
 use Rattle.device.proofs.Starts.{records_entered}
 use Rattle.device.proofs.FoldRun.{fold_run}
-use Rattle.hawsehole.specs.Trace.{lent_rules, whole_rules, start_of, records, run_of, judged, judge, module_in}
+use Rattle.hawsehole.specs.Trace.{lent_rules, whole_rules, start_of, records, module_in}
 use Rattle.hawsehole.specs.Numbers.{whole_call}
 use Rattle.hawsehole.proofs.Whole.{entry, judge_entered, judge_refused}
 use Rattle.hawsehole.proofs.InTime.{start_of_admitted}

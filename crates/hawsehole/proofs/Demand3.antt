@@ -1,24 +1,22 @@
 -- DEMAND 3 of the whole-trace judge, from its bytes. Assumes nothing.
 use Prim.Native.Nat.{ℕ, ◌≤◌}
 use native.Mathlib.Omega.{arith}
-use mathlib.Core.Path.{◌≡◌, refl, ap, sym, subst, ◌∙◌}
+use mathlib.Core.Path.{◌≡◌, refl, ap, sym, ◌∙◌}
 use mathlib.Core.Bool.{true}
-use mathlib.Core.List.{List, [], ◌∷◌, ◌++◌, append-nil}
-use lib.ListN.{length, take, length-append}
+use mathlib.Core.List.{List, [], ◌++◌, append-nil}
+use lib.ListN.{length, take}
 use lib.Seq.{take-append-le, take_at}
 use Rattle.speed.specs.declared.SpeedTable.{SpeedTable}
 use Rattle.speed.specs.Table.{table_fits}
 use Rattle.layout.specs.Bytes.{header_of}
-use Rattle.rules.specs.declared.Setup.{Setup}
 use Rattle.rules.specs.declared.Verdict.{Verdict}
 use Rattle.rules.specs.declared.Verdict.TheVariants.{Taken, Refused}
-use Rattle.rules.specs.Numbers.{first_broken}
-use Rattle.rules.specs.Run.{Line, Run}
+use Rattle.rules.specs.Run.{Line}
 use Rattle.rules.specs.Harder.{NowhereHarder}
 use Rattle.rules.proofs.Easier.{setup}
-use Rattle.rules.proofs.Demand3.{Follows, demand_3}
+use Rattle.rules.proofs.Demand3.{demand_3}
 use Rattle.hawsehole.specs.Demand3.{Demand3Holds}
-use Rattle.hawsehole.specs.Trace.{Judged, lent_rules, whole_rules, start_of, records, run_of, page_of, judged, refused, judge, page_when}
+use Rattle.hawsehole.specs.Trace.{Judged, lent_rules, whole_rules, start_of, records, page_of, judged, refused, judge, page_when}
 use Rattle.hawsehole.proofs.Whole.{entry, judge_entered, judge_refused, page_is}
 
 -- the second answer goes at least as far as the first, with its lines; where the first is clean the two are equal

@@ -1,8 +1,8 @@
 -- NO WHOLE VERSION 1 TRACE GETS 23 OR 25, and its start state is admitted. Assumes nothing.
-use Prim.Native.Nat.{ℕ, ◌+◌, ◌<◌, ◌^◌}
+use Prim.Native.Nat.{ℕ, ◌<◌, ◌^◌}
 use native.Mathlib.Omega.{arith}
 use mathlib.Core.Path.{◌≡◌, refl, sym, subst, ◌∙◌}
-use mathlib.Core.Bool.{Bool, true, false, ◌&&◌, cond}
+use mathlib.Core.Bool.{Bool, true, false, cond}
 use mathlib.Core.List.{List}
 use lib.Dec.{eqb}
 use lib.ListN.{length, drop}
@@ -10,11 +10,10 @@ use Rattle.units.specs.Module.{rows, module_of}
 use Rattle.layout.specs.Bytes.{header_of}
 use Rattle.layout.proofs.Widths.{records_fit, records_length, header_fits}
 use Rattle.rules.specs.declared.Setup.{Setup}
-use Rattle.rules.specs.declared.Verdict.{Verdict}
-use Rattle.rules.specs.declared.Verdict.TheVariants.{Taken, Refused}
+use Rattle.rules.specs.declared.Verdict.TheVariants.{Refused}
 use Rattle.rules.specs.OneRecord.{grade_known}
 use Rattle.rules.specs.Admitted.{Admitted}
-use Rattle.rules.proofs.Kept.{all_numbers, broken_number}
+use Rattle.rules.proofs.Kept.{broken_number}
 use Rattle.rules.proofs.InTime.{Other, never}
 use Rattle.rules.proofs.OneRecord.{known_bench}
 use Rattle.rules.proofs.Stays.{start_admitted}

@@ -1,5 +1,5 @@
 -- The calls of the live monitor on the words of a state are the one-record calls on that state. Assumes nothing.
-use Prim.Native.Nat.{ℕ, ◌+◌, ◌*◌, ◌%◌, ◌^◌}
+use Prim.Native.Nat.{ℕ, ◌%◌, ◌^◌}
 use native.Mathlib.Omega.{arith}
 use mathlib.Core.Path.{◌≡◌, refl, ap, sym, ◌∙◌}
 use mathlib.Core.Bool.{Bool, true, false}
@@ -11,17 +11,16 @@ use Rattle.layout.specs.Bytes.{read_record, record_number}
 use Rattle.layout.proofs.ReadBack.{sixteen_pass}
 use Rattle.rules.specs.declared.State.{State}
 use Rattle.rules.specs.declared.Setup.{Setup}
-use Rattle.rules.specs.declared.Answer.{Answer}
 use Rattle.rules.specs.declared.Verdict.{Verdict}
 use Rattle.rules.specs.declared.Verdict.TheVariants.{Taken, Refused}
 use Rattle.rules.specs.Parts.{state_module}
 use Rattle.rules.specs.Numbers.{rule, first_broken}
-use Rattle.rules.specs.OneRecord.{state_rules, entry_rules, ask_call, Took, take_call}
+use Rattle.rules.specs.OneRecord.{state_rules, entry_rules, ask_call, take_call}
 use Rattle.rules.specs.Report.{put_line}
 use Rattle.rules.proofs.OneRecord.{asked_out}
 use Rattle.asking.proofs.Ladders.{then_taken, first_join}
 use Rattle.device.proofs.OneRecord.{not_sixteen}
-use Rattle.words.specs.Words.{state_words, state_in, words_of, put_words, holds}
+use Rattle.words.specs.Words.{state_words, words_of}
 use Rattle.words.specs.Narrow.{Narrow}
 use Rattle.words.proofs.Stores.{words_length, put_all}
 use Rattle.words.proofs.ReadBack.{read_back, held}
@@ -36,7 +35,7 @@ module _ (u : Setup) (s : State) (h : Narrow s) (bytes page : List ℕ) where
   of_words =
       rw (eq-eqb (length (words_of s)) state_words (words_length s h.four_reads h.four_banks), read_back s h, held s h) (go (eqb (length bytes) 16))
     where
-      go : (x : Bool) → first_broken (rule 1 0 x ∷ (state_rules u s (length page) ++ (rule 25 0 true ∷ []))) ≡ first_broken (rule 1 0 x ∷ state_rules u s (length page))
+      go : (x : Bool) → first_broken (rule 1 0 x ∷ rule 25 0 true ∷ (state_rules u s (length page) ++ (rule 25 0 true ∷ []))) ≡ first_broken (rule 1 0 x ∷ state_rules u s (length page))
       go true = first_join (state_rules u s (length page)) (rule 25 0 true ∷ []) ∙ then_taken (first_broken (state_rules u s (length page)))
       go false = refl
 

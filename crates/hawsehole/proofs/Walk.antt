@@ -1,25 +1,17 @@
 -- The one-record call on each record in turn is the call of many records and the whole-trace judge. Assumes nothing.
-use Prim.Native.Nat.{ℕ, zero, suc, ◌+◌, ◌-◌, ◌*◌, ◌/◌, ◌%◌, ◌<◌}
+use Prim.Native.Nat.{ℕ, zero, suc, ◌+◌, ◌-◌, ◌*◌, ◌/◌, ◌<◌}
 use native.Mathlib.Omega.{arith}
-use native.Mathlib.Numerals.{add-one}
-use native.Mathlib.Nat.{zero-add, suc-add}
 use mathlib.Core.Path.{◌≡◌, refl, ap, sym, subst, ◌∙◌}
-use mathlib.Core.Bool.{Bool, true, false, ◌&&◌, cond}
+use mathlib.Core.Bool.{Bool, true, false, cond}
 use mathlib.Core.List.{List, ◌∷◌}
 use lib.Dec.{leb, eqb}
-use lib.ListN.{length, take, drop, set, length-set, length-drop}
+use lib.ListN.{length, take, drop, length-drop}
 use lib.Seq.{length-take-le}
-use borrow.Author.Tests.{eq-eqb, ne_eqb, eqb-true, leb-false}
-use Rattle.units.specs.Module.{lanes, page_bytes}
-use Rattle.speed.specs.Table.{table_fits}
-use Rattle.units.specs.declared.Module.{Module}
+use borrow.Author.Tests.{eq-eqb, ne_eqb, leb-false}
+use Rattle.units.specs.Module.{page_bytes}
 use Rattle.layout.specs.declared.Record.{Record}
 use Rattle.layout.specs.Bytes.{header_of, records_of}
 use Rattle.layout.proofs.ReadBack.{sixteen_pass}
-use Rattle.layout.proofs.Widths.{record_fits, record_on}
-use Rattle.bursts.specs.declared.Beat.{Beat}
-use Rattle.bursts.specs.declared.Beat.TheVariants.{Quiet, Stores, Drives}
-use Rattle.page.specs.Store.{put_lanes, put_cells, stored}
 use Rattle.rules.specs.declared.State.{State}
 use Rattle.rules.specs.declared.Setup.{Setup}
 use Rattle.rules.specs.declared.Verdict.{Verdict}
@@ -27,16 +19,15 @@ use Rattle.rules.specs.declared.Verdict.TheVariants.{Taken, Refused}
 use Rattle.rules.specs.Parts.{state_module}
 use Rattle.rules.specs.Numbers.{first_broken}
 use Rattle.rules.specs.Rules.{ask}
-use Rattle.rules.specs.After.{own_beat, core_from, core_after, next}
+use Rattle.rules.specs.After.{core_from, core_after, next}
 use Rattle.rules.specs.Run.{line, run, page_after}
-use Rattle.rules.specs.OneRecord.{period_fits, grade_known, state_rules, entry_rules, Stepped, step, record_for}
+use Rattle.rules.specs.OneRecord.{state_rules, entry_rules, Stepped, step, record_for}
 use Rattle.rules.specs.Report.{put_line, lines_into, Left, left, ran, fold, records_rules, room, past_room, at_most, records_call}
 use Rattle.rules.specs.Fits.{number_max, fits}
-use Rattle.rules.proofs.Admitted.{admitted, fits_admitted}
+use Rattle.rules.proofs.Admitted.{admitted}
 use Rattle.rules.proofs.Kept.{kept}
 use Rattle.rules.proofs.Runs.{next_number, page_next}
 use Rattle.rules.proofs.OneRecord.{refused, taken, step_refuses, entry_refused, taken_at_zero, step_taken}
-use Rattle.rules.specs.Calls.{Able}
 use Rattle.admitting.proofs.Ladder.{records_ladder}
 use Rattle.device.proofs.Starts.{Entry, entry_of, records_entered, records_past}
 use Rattle.device.proofs.Ready.{Ready, ready_of, ready_entered, ready_next}

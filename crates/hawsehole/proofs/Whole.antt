@@ -1,7 +1,7 @@
 -- The whole-trace judge by what it finds first; what 1 to 7 leave; what it reports. Assumes nothing.
 use Prim.Native.Nat.{ℕ}
 use native.Mathlib.Omega.{arith}
-use mathlib.Core.Path.{◌≡◌, refl, ap, sym, ◌∙◌}
+use mathlib.Core.Path.{◌≡◌, refl, sym}
 use mathlib.Core.List.{List, [], ◌∷◌}
 use lib.ListN.{length}
 use Rattle.units.specs.declared.Module.{Module}
@@ -11,9 +11,9 @@ use Rattle.rules.specs.declared.Setup.{Setup}
 use Rattle.rules.specs.declared.Verdict.{Verdict}
 use Rattle.rules.specs.declared.Verdict.TheVariants.{Taken, Refused}
 use Rattle.rules.specs.Numbers.{first_broken}
-use Rattle.rules.specs.Run.{Line, page_after}
+use Rattle.rules.specs.Run.{page_after}
 use Rattle.rules.proofs.Runs.{reports}
-use Rattle.hawsehole.specs.Trace.{Judged, trace_rules, start_of, records, run_of, page_of, judged, refused, judged_by, judge, page_when}
+use Rattle.hawsehole.specs.Trace.{Judged, trace_rules, start_of, records, run_of, page_of, judged, refused, judged_by, judge}
 
 -- what is found before the first record
 abbrev pub entry : Setup → List ℕ → List ℕ → Verdict

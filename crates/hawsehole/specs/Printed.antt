@@ -1,5 +1,5 @@
 -- The printed case of document 01, from its 144 bytes. Assumes nothing.
-use Rattle.std.specs.Prelude.{ℕ, ◌+◌, ◌≡◌, refl, List, [], ◌∷◌, ◌++◌, replicate}
+use Rattle.std.specs.Prelude.{ℕ, ◌≡◌, refl, List, [], ◌∷◌, ◌++◌, replicate}
 use Rattle.units.specs.Time.{clock}
 use Rattle.speed.specs.Table.{table_fits}
 use Rattle.units.specs.Module.{module_of}
@@ -7,7 +7,6 @@ use Rattle.layout.specs.Commands.{column_on}
 use Rattle.layout.specs.Bytes.{has_pins, lane_masks, header_from, read_header, record_from, records_of}
 use Rattle.mode.specs.Word.{length_of}
 use Rattle.mode.specs.Order.{beat_column}
-use Rattle.bursts.specs.declared.Beat.{Beat}
 use Rattle.bursts.specs.declared.Beat.TheVariants.{Quiet, Stores}
 use Rattle.bursts.specs.Burst.{has_beat, write_beat, read_beat, finished}
 use Rattle.bursts.specs.Bus.{masks_on, masks_after, reads_from, bus_after, beat_on, bursts_finished, driven, bus_clear}

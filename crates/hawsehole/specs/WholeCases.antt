@@ -1,6 +1,6 @@
 -- The whole-trace judge from bytes, by cases from 01, Verdicts: 1 to 7 from both sides and in their order, what is reported, and what is
 -- left of the page. Assumes nothing.
-use Rattle.std.specs.Prelude.{ℕ, ◌+◌, ◌-◌, ◌*◌, ◌^◌, Bool, ◌&&◌, List, [], ◌∷◌, ◌++◌, eqb, T, length, take, drop, replicate}
+use Rattle.std.specs.Prelude.{ℕ, ◌+◌, ◌^◌, Bool, ◌&&◌, List, [], ◌∷◌, ◌++◌, eqb, T, length, take, drop, replicate}
 use Rattle.units.specs.Facts.{all_true, same_numbers}
 use Rattle.units.specs.Module.{module_of}
 use Rattle.speed.specs.declared.SpeedTable.{SpeedTable}
@@ -32,22 +32,7 @@ use Rattle.rules.specs.After.{
 use Rattle.rules.specs.Run.{run, page_after}
 use Rattle.hawsehole.specs.Trace.{Judged, start_of, judge, whole_rules, lent_rules, page_when}
 use Rattle.hawsehole.specs.Numbers.{with_table}
-use Rattle.hawsehole.specs.Traces.{
-  header,
-  bits_of,
-  pins,
-  all_banks,
-  precharge,
-  refresh,
-  load,
-  active,
-  read,
-  write,
-  nop,
-  up,
-  up_active,
-  of_lines,
-}
+use Rattle.hawsehole.specs.Traces.{header, bits_of, pins, all_banks, refresh, active, read, write, nop, up, up_active, of_lines}
 
 -- ── Numbers 1 to 7 ──
 

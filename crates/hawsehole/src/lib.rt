@@ -1,5 +1,6 @@
 // The whole-trace judge.
 #![tactic(auto)]
+
 ghost use Rattle.std.specs.Prelude.{◌≡◌};
 ghost use Rattle.rules.specs.Numbers.{first_broken};
 ghost use Rattle.rules.specs.Report.{left};
@@ -16,6 +17,7 @@ use speed::SpeedTable;
 use units::{Module, Ps};
 
 // 5, 6 and 7.
+#[tactic(auto, unfolding(crate::specs::Trace::lent_rules))]
 fn lent_verdict(u: Setup, h: Header, lent: usize) -> Verdict
     ensures { result ≡ first_broken (lent_rules u h lent) }
 {
@@ -34,6 +36,7 @@ fn lent_verdict(u: Setup, h: Header, lent: usize) -> Verdict
 }
 
 // 1 to 7, of a trace with this header.
+#[tactic(auto, unfolding(crate::specs::Trace::whole_rules))]
 pub fn whole_verdict(u: Setup, h: Header, bytes: usize, lent: usize) -> Verdict
     ensures { result ≡ first_broken (whole_rules u h bytes lent) }
 {
@@ -55,6 +58,7 @@ pub fn whole_verdict(u: Setup, h: Header, bytes: usize, lent: usize) -> Verdict
 
 // A whole trace: 1 to 7, then its records in turn. The page holds the stores of the records taken, `beats` two words for each
 // of them, where it has their place; a refusal by 1 to 7 leaves both as they were.
+#[tactic(auto, unfolding(crate::specs::Numbers::whole_call))]
 pub fn judge(u: Setup, trace: &[u8], page: &mut [u8], beats: &mut [u64]) -> Ran
     ensures { left result page.new beats.new ≡ whole_call u trace.now page.old beats.old }
 {
@@ -85,6 +89,7 @@ fn word_of(number: u8, interval: u8, reported: u64) -> u64
 }
 
 // The whole-trace judge's.
+#[tactic(auto, unfolding(crate::specs::Numbers::answer_word))]
 pub fn answer_word(r: Ran) -> u64
     ensures { result ≡ answer_word r }
 {
@@ -116,6 +121,7 @@ fn setup_of(
 
 // The whole-trace judge over byte slices and the thirteen numbers of the speed table in document 01's order, as `hawsehole_c` lends it
 // to C.
+#[tactic(auto, unfolding(crate::specs::Numbers::judge_beats))]
 pub fn hawsehole_judge_beats(
     trace: &[u8],
     page: &mut [u8],
@@ -142,6 +148,7 @@ pub fn hawsehole_judge_beats(
 }
 
 // The same, with no beats.
+#[tactic(auto, unfolding(crate::specs::Numbers::judge_alone))]
 pub fn hawsehole_judge(
     trace: &[u8],
     page: &mut [u8],

@@ -12,6 +12,7 @@ use units::{BANKS, Clock, Event, Module, Ps};
 use words::WORDS;
 
 // 25, of the words and the watched bank and row.
+#[tactic(auto, unfolding(crate::specs::Monitor::place_rules))]
 fn place_verdict(words: usize, m: Module, bank: u64, row: u64) -> Verdict
     ensures { result ≡ first_broken (place_rules words m bank row) }
 {
@@ -28,6 +29,7 @@ fn place_verdict(words: usize, m: Module, bank: u64, row: u64) -> Verdict
 }
 
 // 4 and 25.
+#[tactic(auto, unfolding(crate::specs::Monitor::grade_rules))]
 fn grade_verdict(words: usize, grade: u8, bank: u64, row: u64) -> Verdict
     ensures { result ≡ first_broken (grade_rules words grade bank row) }
 {
@@ -38,6 +40,7 @@ fn grade_verdict(words: usize, grade: u8, bank: u64, row: u64) -> Verdict
 }
 
 // 3, 4 and 25.
+#[tactic(auto, unfolding(crate::specs::Monitor::start_rules))]
 fn start_verdict(words: usize, period: u64, grade: u64, bank: u64, row: u64) -> Verdict
     ensures { result ≡ first_broken (start_rules words period grade bank row) }
 {
@@ -51,13 +54,8 @@ fn start_verdict(words: usize, period: u64, grade: u64, bank: u64, row: u64) -> 
 }
 
 // The state before the first record, as words.
-pub fn hawsehole_start(
-    state: &mut [u64],
-    period: u64,
-    grade: u64,
-    bank: u64,
-    row: u64,
-) -> u64
+#[tactic(auto, unfolding(crate::specs::Monitor::start_call))]
+pub fn hawsehole_start(state: &mut [u64], period: u64, grade: u64, bank: u64, row: u64) -> u64
     ensures { started result state.new ≡ start_call state.old period grade bank row }
 {
     let v = start_verdict(state.len(), period, grade, bank, row);
@@ -84,6 +82,7 @@ fn unheld(number: u8) -> u64
 }
 
 // May this record stand next? What is tried before the record is looked at stands in one place, behind `Device::ask`.
+#[tactic(auto, unfolding(crate::specs::Monitor::ask_words))]
 fn ask(u: Setup, state: &[u64], bytes: &[u8], page: &[u8]) -> u64
     ensures { result ≡ ask_words u state.now bytes.now page.now }
 {
@@ -112,6 +111,7 @@ fn last_clock(last: Event) -> Clock
 }
 
 // Takes it.
+#[tactic(auto, unfolding(crate::specs::Monitor::take_words))]
 fn take(u: Setup, state: &mut [u64], bytes: &[u8], page: &mut [u8], beat: &mut [u64]) -> u64
     ensures { monitored result state.new page.new beat.new ≡ take_words u state.old bytes.now page.old beat.old }
 {
