@@ -30,7 +30,7 @@ use Rattle.rules.specs.Run.{run, page_after}
 use Rattle.rules.specs.Report.{beat_word, put_line, lines_into}
 use Rattle.hawsehole.specs.Trace.{judge, whole_rules, lent_rules}
 use Rattle.hawsehole.specs.Numbers.{whole_call, answer_word, judge_beats}
-use Rattle.hawsehole.specs.Traces.{header, bits_of, all_banks, refresh, read, nop, up, up_active}
+use Rattle.hawsehole.specs.Traces.{header, all_banks, refresh, read, nop, up, up_active}
 use Rattle.hawsehole.specs.WholeCases.{writing}
 use Rattle.hawsehole.specs.NumberCases.{refused_trace, read_trace}
 use Rattle.lines.specs.Text.{

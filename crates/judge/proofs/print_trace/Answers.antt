@@ -1,4 +1,4 @@
-use Rattle.std.proofs.Common.{◌≡◌, ℕ, rules, length}
+use Rattle.std.proofs.Common.{◌≡◌, rules, length}
 use Rattle.judge.proofs.Answers.{printed_held}
 use Rattle.judge.proofs.print_trace.Goals as goal
 

@@ -1,5 +1,4 @@
 use Rattle.std.proofs.Common.{rules, length, ◌-◌}
-use Rattle.std.specs.Io.KnownBytes.{Consumes}
 use Rattle.judge.proofs.Reading.{both_parts, both_taken}
 use Rattle.judge.proofs.read_full.Goals as goal
 
