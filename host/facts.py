@@ -1,12 +1,12 @@
 """The facts run of host/mutate.py: is an edit of a definition refused by a fact alone?
 
 Someone who changes the definition and the code together meets no failing code proof. Only facts stop him: the tables of cases that the
-checker computes (`*Cases`, `Printed`), and the laws. So this run works on copies of the crates that have no code and no code proofs. Of
-src/ a copy has the structs and enums that the definitions speak of. Of specs/ it has every file. For an edit with a line `law`, the copy
-has that law, and those it cites, in place of the tables; of these it has what the laws cite.
+checker computes (the files `*Cases` and `*Printed` of specs/, and those right in proofs/), and the laws. So this run works on copies of the
+crates that have no code and no code proofs. Of src/ a copy has the structs and enums that the definitions speak of. Of specs/ it has every
+file. For an edit with a line `law`, the copy has that law, and those it cites, in place of the tables; of these it has what the laws cite.
 
 An edit is made in a copy. The edited crate is checked first, then each crate above it, up to the first refusal. A crate is checked with
-each table that uses no other, then with all of them: most edits need no more than the first. An edit is
+each table that uses no other table, then with all of them: most edits need no more than the first. An edit is
 
     held      a table's theorem fails, or the law that the edit names; what failed is named
     misfit    refused for anything else: the edit does not typecheck, or a proof no longer has the shape it needs. It shows nothing
@@ -27,18 +27,19 @@ HOME = os.environ.get("MUTATE_HOME", os.path.join(ROOT, "target", "mutate"))
 RESULTS = os.path.join(HOME, "results-facts.json")
 SECONDS = 600
 # Their definitions, where they have any, are for the code behind the public calls. Each is proved equal to the rules by a law or a contract.
-BRIDGES = ("asking", "taking", "admitting", "packed", "device", "explain", "bench")
+BRIDGES = ("bus", "asking", "taking", "admitting", "packed", "device", "hawsehole_c", "explain", "bench")
 # No definitions of answers: facts for theorems, which need the code's own laws; and what tables share.
 OUTSIDE = ("hawsehole/Walk", "rules/Demand3", "rules/Calls", "units/Facts", "hawsehole/Traces")
 TABLE = re.compile(r"(Cases|Printed)$")
-ERROR = re.compile(r"crates/(\w+)/(\w+)/(\S+?)\.antt:\d+:\d+: error: (.*(?:\n +.*)*)")
-MISFIT = re.compile(r"not in scope|does not parse|cannot be named|no such name|unbound")
+# What is wrong in a file of the crate that is checked.
+ERROR = re.compile(r"^(?:\./)?(\w+)/(\S+?)\.antt:\d+:\d+: error: (.*(?:\n +.*)*)", re.M)
+MISFIT = re.compile(r"not in scope|does not parse|cannot be named|no such name|unbound|has no field|has no `|is no name|cannot continue|expected the end|operand is missing")
 SHAPE = re.compile(r"no occurrence|could not be computed")
-TYPE = re.compile(r"^pub (?:struct|enum) (?:[^\n{]*;|[^\n{]*\{\n(?:.*\n)*?\})\n", re.M)
-USE = re.compile(r"^use (\w+)::(\w+);\n", re.M)
-LAW = re.compile(r"^use Rattle·(\w+)(?:·proofs)?\.proofs\.(\w+)", re.M)
-OWN = re.compile(r"^use Rattle·\w+·specs\.specs\.(\w+)", re.M)
-SPEC = re.compile(r"^use Rattle·(\w+?)(?:·specs)?\.specs\.(\w+)", re.M)
+TYPE = re.compile(r"^(?:#\[derive\([^\n]*\)\]\n)?pub (?:struct|enum) (?:[^\n{]*;|[^\n{]*\{\n(?:.*\n)*?\})\n", re.M)
+USE = re.compile(r"^use (\w+)::(?:(\w+)|\{([^{}]*)\});\n", re.M)
+LAW = re.compile(r"^use Rattle\.(\w+)\.proofs\.(\w+)", re.M)
+SPEC = re.compile(r"^use Rattle\.(\w+)\.specs\.(\w+)", re.M)
+HEAD = "#![tactic(auto)]\n"
 
 
 def read(*parts):
@@ -63,17 +64,52 @@ def plain(crate):
     return [name for name in files(crate) if name != "Lib" and not TABLE.search(name)]
 
 
+def listed(crate, folder):
+    """The modules of a crate's specs/ or proofs/, in its own order."""
+    if not os.path.exists(os.path.join(ROOT, "crates", crate, folder, "Lib.antt")):
+        return []
+    return re.findall(r"^(?:pub )?mod (\w+)", read(crate, folder, "Lib.antt"), re.M)
+
+
+@functools.lru_cache(maxsize=None)
+def law_files():
+    """The law files that edits name, as pairs of crate and file: they are no tables."""
+    with open(os.path.join(ROOT, "host", "mutations.txt")) as f:
+        return set(re.findall(r"^law (\w+)/(\w+) ", f.read(), re.M))
+
+
+@functools.lru_cache(maxsize=None)
+def every_table(crate):
+    """The tables of a crate, as FOLDER/File, in its own order."""
+    found = ["specs/" + name for name in listed(crate, "specs")]
+    found += ["proofs/" + name for name in listed(crate, "proofs") if (crate, name) not in law_files()]
+    return [table for table in found if TABLE.search(table) and os.path.exists(os.path.join(ROOT, "crates", crate, table + ".antt"))]
+
+
+@functools.lru_cache(maxsize=None)
+def with_used(crate, table):
+    """A table and the tables of its crate that it uses."""
+    found, every = [table], every_table(crate)
+    for one in found:
+        text = read(crate, one + ".antt")
+        used = ["specs/" + name for c, name in SPEC.findall(text) if c == crate] + ["proofs/" + name for c, name in LAW.findall(text) if c == crate]
+        found += [name for name in dict.fromkeys(used) if name in every and name not in found]
+    return [name for name in every if name in found]
+
+
 def tables(crate):
-    """The tables of a crate as they are tried: each that uses no other by itself, then all."""
-    every = [name for name in re.findall(r"^pub mod (\w+)", read(crate, "specs", "Lib.antt"), re.M) if TABLE.search(name)]
-    alone = [[name] for name in every if not any(TABLE.search(used) for used in OWN.findall(read(crate, "specs", name + ".antt")))]
+    """The tables of a crate as they are tried: each that uses no other by itself, then all. What only a table of proofs/ is stated over goes
+    with it."""
+    every = every_table(crate)
+    own = [t for t in every if not any(t in with_used(crate, p) for p in every if p != t and p.startswith("proofs/"))]
+    alone = [used for used in (with_used(crate, t) for t in own) if sum(t in own for t in used) == 1]
     return alone if alone == [every] else alone + [every]
 
 
 def crates():
     """The crates of the run, the lowest first."""
     with open(os.path.join(ROOT, "crates.txt")) as f:
-        names = [line.split(":")[0] for line in f if ":" in line and not line.startswith("#")]
+        names = [line.split(":")[0].split()[0] for line in f if ":" in line and not line.startswith("#")]
     # Tables alone stand right above what they hold: they refuse most edits.
     names.insert(names.index("rules") + 1, names.pop(names.index("facts")))
     return [c for c in names if c not in BRIDGES]
@@ -95,28 +131,44 @@ def definition_of(e):
 def types(crate):
     """The structs and enums of a crate, and the `use` lines that they need."""
     if not os.path.exists(os.path.join(ROOT, "crates", crate, "src", "lib.rt")):
-        return ""
+        return HEAD
     code = read(crate, "src", "lib.rt")
     declared = "".join(TYPE.findall(code))
-    return "".join("use %s::%s;\n" % used for used in USE.findall(code) if re.search(r"\b%s\b" % used[1], declared)) + declared
+    uses = ""
+    for under, name, names in USE.findall(code):
+        needed = [n for n in re.findall(r"\w+", name or names) if re.search(r"\b%s\b" % n, declared)]
+        uses += "use %s::{%s};\n" % (under, ", ".join(needed)) if needed else ""
+    return HEAD + uses + declared
 
 
 def stands_on(crate, texts):
     """The crates that these texts of a crate use."""
-    named = set(re.findall(r"^use (?:Rattle·)?(\w+)", "".join(texts), re.M))
+    named = set(re.findall(r"^use (?:Rattle\.)?(\w+)", "".join(texts), re.M))
     return [c for c in crates() if c in named and c != crate]
 
 
-def laws_for(every):
-    """The law files that the edits name and all that those use, as pairs of crate and file."""
-    laws = list(dict.fromkeys(tuple(e.law.split()[0].split("/")) for e in every if e.law))
+def with_cited(laws):
+    """These law files and all that they use, as pairs of crate and file."""
+    laws = list(dict.fromkeys(laws))
     for crate, name in laws:
-        laws += [used for used in LAW.findall(read(crate, "proofs", name + ".antt")) if used not in laws]
+        laws += [used for used in dict.fromkeys(LAW.findall(read(crate, "proofs", name + ".antt"))) if used not in laws]
     return laws
 
 
+def laws_for(every):
+    """The law files that the edits name and all that those use."""
+    return with_cited(tuple(e.law.split()[0].split("/")) for e in every if e.law)
+
+
+@functools.lru_cache(maxsize=None)
+def lemmas(crate):
+    """The files of proofs/ that tables of proofs/ use and that are no tables, of this crate."""
+    tabled = [(c, t.split("/")[1]) for c in crates() for t in every_table(c) if t.startswith("proofs/")]
+    return [name for c, name in with_cited(tabled) if c == crate and (c, name) not in tabled]
+
+
 def tables_for(laws):
-    """The tables that these laws use, and those that those use, as pairs of crate and file."""
+    """The tables of specs/ that these laws use, and those that those use, as pairs of crate and file."""
     cited = [used for crate, name in laws for used in SPEC.findall(read(crate, "proofs", name + ".antt")) if TABLE.search(used[1])]
     found = list(dict.fromkeys(cited))
     for crate, name in found:
@@ -127,7 +179,7 @@ def tables_for(laws):
 def kept(crate, laws):
     """The tables of a crate that a copy with laws has, in the crate's own order."""
     cited = tables_for(laws)
-    return [name for name in tables(crate)[-1] if (crate, name) in cited]
+    return [table for table in every_table(crate) if (crate, table.split("/")[1]) in cited and table.startswith("specs/")]
 
 
 def put(place, crate, folder, names):
@@ -139,17 +191,28 @@ def put(place, crate, folder, names):
         write("".join("pub mod %s\n" % name for name in names), place, "crates", crate, folder, "Lib.antt")
 
 
+def put_facts(place, crate, some, laws):
+    """Writes a crate's definitions to the copy, with these tables, or these tables and laws, and nothing else. Answers what it wrote."""
+    inside = {folder: [t.split("/")[1] for t in some if t.startswith(folder)] for folder in ("specs/", "proofs/")}
+    inside["specs/"] = plain(crate) + inside["specs/"]
+    inside["proofs/"] = [name for c, name in laws if c == crate] if laws else lemmas(crate) + inside["proofs/"]
+    for folder, names in inside.items():
+        put(place, crate, folder[:-1], names)
+    return [read(crate, folder + name + ".antt") for folder, names in inside.items() for name in names]
+
+
 def stripped(place, laws):
     """Writes the crates to the copy, without code; with laws, they stand there in place of the tables. What was proved in the copy stays,
     and is used where it fits still."""
-    shutil.rmtree(os.path.join(place, "crates"), ignore_errors=True)
+    folder = os.path.join(place, "crates")
+    for c in os.listdir(folder) if os.path.isdir(folder) else []:
+        if c not in crates():
+            shutil.rmtree(os.path.join(folder, c))
     order = ""
     for c in crates():
-        own = {"specs": plain(c) + (kept(c, laws) if laws else tables(c)[-1]), "proofs": [name for crate, name in laws if crate == c]}
+        shutil.rmtree(os.path.join(folder, c, "src"), ignore_errors=True)
         write(types(c), place, "crates", c, "src", "lib.rt")
-        for folder, names in own.items():
-            put(place, c, folder, names)
-        texts = [read(c, folder, name + ".antt") for folder, names in own.items() for name in names]
+        texts = put_facts(place, c, kept(c, laws) if laws else every_table(c), laws)
         order += "%s: %s\n" % (c, " ".join(stands_on(c, [types(c)] + texts)))
     write(order, place, "crates.txt")
 
@@ -165,11 +228,20 @@ def above(place, crate):
     return found
 
 
-def checked(place, names, jobs=1):
-    """The check of these crates, or of all: its status, and what it said."""
-    environment = dict(os.environ, RT_JOBS=str(jobs), RT_CUT="400")
-    done = subprocess.run(["rt", "check"] + names, cwd=place, env=environment, stdout=subprocess.PIPE, stderr=subprocess.STDOUT, timeout=SECONDS)
+def checked(place, crate, is_last):
+    """The check of a crate: its status, and what it said. The last check of a crate makes it ready for those above."""
+    command = ["rt", "lib" if is_last else "check", "--jobs", "1"]
+    where = os.path.join(place, "crates", crate)
+    done = subprocess.run(command, cwd=where, stdout=subprocess.PIPE, stderr=subprocess.STDOUT, timeout=SECONDS)
     return done.returncode, done.stdout.decode(errors="replace")
+
+
+def link(one, other):
+    """What was proved is linked: a check replaces such a file and changes none."""
+    if one.endswith(".oantt"):
+        os.link(one, other)
+    else:
+        shutil.copy2(one, other)
 
 
 class Base:
@@ -178,11 +250,12 @@ class Base:
     def __init__(self, name, laws):
         self.place, self.laws = os.path.join(HOME, name), laws
 
-    def prove(self, jobs):
+    def prove(self):
         stripped(self.place, self.laws)
-        status, text = checked(self.place, [], jobs)
-        if status:
-            sys.exit("the definitions as they are do not hold (%s):\n%s" % (self.place, text))
+        for c in crates():
+            status, text = checked(self.place, c, True)
+            if status:
+                sys.exit("the definitions as they are do not hold (%s, %s):\n%s" % (self.place, c, text))
 
 
 class Copy:
@@ -194,16 +267,14 @@ class Copy:
     def make(self):
         if not self.made:
             shutil.rmtree(self.place, ignore_errors=True)
-            shutil.copytree(self.base.place, self.place)
+            shutil.copytree(self.base.place, self.place, copy_function=link)
             self.made = True
 
     def put_back(self, names):
         """These crates as they were before an edit, with what was proved of them."""
         for c in names:
-            for part in (("crates", c), ("target", "rlib", c + ".rlib")):
-                shutil.rmtree(os.path.join(self.place, *part), ignore_errors=True)
-                shutil.copytree(os.path.join(self.base.place, *part), os.path.join(self.place, *part))
-            shutil.copy(os.path.join(self.base.place, "target", "stamp", c), os.path.join(self.place, "target", "stamp", c))
+            shutil.rmtree(os.path.join(self.place, "crates", c), ignore_errors=True)
+            shutil.copytree(os.path.join(self.base.place, "crates", c), os.path.join(self.place, "crates", c), copy_function=link)
 
 
 def copies(todo, jobs):
@@ -211,21 +282,21 @@ def copies(todo, jobs):
     tabled, lawful = Base("facts", []), Base("laws", laws_for(todo))
     wanted = [b for b, laws in ((tabled, False), (lawful, True)) if any(bool(e.law) == laws for e in todo)]
     with concurrent.futures.ThreadPoolExecutor(jobs) as pool:
-        for proved in [pool.submit(b.prove, max(1, jobs // len(wanted))) for b in wanted]:
+        for proved in [pool.submit(b.prove) for b in wanted]:
             proved.result()
     return [(Copy(tabled, i + 1), Copy(lawful, i + 1)) for i in range(jobs)]
 
 
-def judged(e, text):
+def judged(e, crate, text):
     """held or misfit, and what refused."""
-    errors = [found for found in ERROR.findall(text) if "was not admitted" not in found[3].split("\n")[0]]
-    if not errors:
+    errors = [found for found in ERROR.findall(text) if "was not admitted" not in found[2].split("\n")[0]]
+    if not errors or not re.search(r"^logic=not-proved", text, re.M):
         return "misfit", "no error was found in what the check said: " + text.strip().split("\n")[-1][:200]
     told = []
-    for crate, folder, name, message in errors:
+    for folder, name, message in errors:
         line = message.split("\n")[0]
         told.append("%s/%s %s" % (crate, name, (re.findall(r"`([^` ]+)`", line) or ["?"])[0]))
-        fact = folder == "proofs" and not SHAPE.search(message) if e.law else folder == "specs" and TABLE.search(name)
+        fact = folder == "proofs" and not SHAPE.search(message) if e.law else "%s/%s" % (folder, name) in every_table(crate)
         if not fact or MISFIT.search(line):
             return "misfit", told[-1] + ": " + line[:200]
     if e.law and e.law not in told:
@@ -237,13 +308,14 @@ def refused(e, place, laws, done):
     """The verdict on the edit: crate after crate from its own on, each with one table at a time, then with all."""
     for c in above(place, e.crate):
         done.append(c)
-        for names in [kept(c, laws)] if e.law else tables(c):
-            put(place, c, "specs", plain(c) + names)
+        groups = [kept(c, laws)] if e.law else tables(c)
+        for some in groups:
+            put_facts(place, c, some, laws if e.law else [])
             if c == e.crate:
                 write(e.applied(read(e.file)), place, "crates", e.file)
-            status, said = checked(place, [c])
+            status, said = checked(place, c, some is groups[-1])
             if status:
-                return judged(e, said)
+                return judged(e, c, said)
     return "SURVIVED", ""
 
 
@@ -263,6 +335,8 @@ def tried(e, pair):
 def sum_of(laws):
     """All that a verdict hangs on but the edit."""
     texts = [types(c) + "".join(name + read(c, "specs", name + ".antt") for name in files(c)) for c in crates()]
+    texts += [read(c, "proofs", name + ".antt") for c in crates() for name in lemmas(c)]
+    texts += [read(c, table + ".antt") for c in crates() for table in every_table(c) if table.startswith("proofs/")]
     texts += [read(crate, "proofs", name + ".antt") for crate, name in laws]
     return hashlib.sha256("\0".join(texts).encode()).hexdigest()
 
