@@ -10,8 +10,9 @@
     python3 host/mutate.py --facts ..        the same of the edits of definitions, with no code there: host/facts.py says how
     python3 host/mutate.py --facts --each    one edit of each definition file, the first in the list; fails where one is not held
 
-An edit is made in a copy of the repository under target/mutate (or MUTATE_HOME), with what is proved already. A library is then checked by `rt dev`, a
-program by `rt check`, which also runs it; `upto NAME` in an edit has `rt check NAME` prove the edited crate and all up to NAME. An edit is
+An edit is made in a copy of the repository under target/mutate (or MUTATE_HOME), with what is proved already. The edited crate is then
+checked by `rt check` in its folder, and a program by `rt run` besides, on its `stdin`, held to its `stdout`; `upto NAME` in an edit has the
+edited crate and all up to NAME proved, crate after crate. An edit is
 
     killed    a proof, a table of cases or a run fails; the first error is shown
     misfit    refused, but only because a proof file no longer fits the code's shape, or the text makes no sense: it shows nothing
@@ -40,10 +41,11 @@ ROOT = os.path.dirname(HERE)
 HOME = facts.HOME
 RESULTS = os.path.join(HOME, "results.json")
 SECONDS = 1800
-MISFIT = re.compile(r"has no `Need-|error\[|does not parse|is not in scope|cannot be named|no such name|unbound")
-SHAPE = re.compile(r"no occurrence|could not be computed")
-ERROR = re.compile(r"crates/(\S+?:\d+):\d+: (?:error|note: it is not proved)")
-RUN = re.compile(r"^rt: (\S+: what the program wrote .*)$", re.M)
+MISFIT = re.compile(facts.MISFIT.pattern + r"|error\[")
+SHAPE = facts.SHAPE
+# what a check says first of what it refuses: an error, or a goal of a function that it does not prove
+ERROR = re.compile(r"^(?:note: )?(?:\./)?((?:src|specs|proofs)/\S+?:\d+):\d+: (?:error|it is not proved)|^error\[", re.M)
+SOUGHT = re.compile(r"^fn (\S+): (?:no proof|not proved)", re.M)
 
 
 class Edit:
@@ -122,12 +124,9 @@ class Results:
 def fresh(place):
     """A copy of the repository with all that is proved."""
     shutil.rmtree(place, ignore_errors=True)
-    os.makedirs(os.path.join(place, "target"))
-    shutil.copytree(os.path.join(ROOT, "crates"), os.path.join(place, "crates"))
+    os.makedirs(place)
+    shutil.copytree(os.path.join(ROOT, "crates"), os.path.join(place, "crates"), copy_function=facts.link)
     shutil.copy(os.path.join(ROOT, "crates.txt"), place)
-    for part in ("rlib", "stamp", "obj", "bin", "log"):
-        if os.path.exists(os.path.join(ROOT, "target", part)):
-            shutil.copytree(os.path.join(ROOT, "target", part), os.path.join(place, "target", part))
     return place
 
 
@@ -139,31 +138,74 @@ def program(crate):
     return os.path.exists(os.path.join(ROOT, "crates", crate, "src", "main.rt"))
 
 
-def command(e):
-    if e.upto:
-        return ["rt", "check", e.upto]
-    return ["rt", "check", e.crate] if program(e.crate) else ["rt", "dev", e.crate]
+def under():
+    """Each crate of crates.txt with those that it names, in its order."""
+    with open(os.path.join(ROOT, "crates.txt")) as f:
+        lines = [line.partition(":") for line in f if ":" in line and not line.startswith("#")]
+    return {name.split()[0]: names.split() for name, _, names in lines}
 
 
-def judged(status, text):
-    """killed, misfit or SURVIVED, and the first error."""
-    if status == 0:
-        return "SURVIVED", ""
-    first = ERROR.search(text)
-    ran = RUN.search(text)
+def checked_crates(e):
+    """The crates that are checked for an edit, the edited one first."""
+    if not e.upto:
+        return [e.crate]
+    found, below = [e.crate], under()
+    for name, names in below.items():
+        if set(names) & set(found) and (name == e.upto or name in below[e.upto]):
+            found.append(name)
+    return found
+
+
+def differs(crate, place, seconds):
+    """How a proved program's run differs from what it must write, or nothing."""
+    folder = os.path.join(place, "crates", crate)
+
+    def given(name):
+        path = os.path.join(folder, name)
+        if not os.path.exists(path):
+            return b""
+        with open(path, "rb") as f:
+            return f.read()
+
+    words = ["rt", "run", "--jobs", "1", "--"] + given("args").decode().splitlines()
+    done = subprocess.run(words, cwd=folder, input=given("stdin"), stdout=subprocess.PIPE, stderr=subprocess.PIPE, timeout=seconds)
+    if done.stdout != given("stdout"):
+        return "what the program wrote is not its stdout"
+    wanted = int(given("status").decode() or 0)
+    return "" if done.returncode == wanted else "the program ended with %d, and not with %d" % (done.returncode, wanted)
+
+
+def judged(crate, text):
+    """killed or misfit, and the first error, of a check that refused."""
+    first, sought = ERROR.search(text), SOUGHT.search(text)
+    if not re.search(r"^logic=not-proved", text, re.M):
+        return "misfit", "no verdict: " + (first.group(0) if first else text.strip().split("\n")[-1])[:200]
     if not first:
         # A function with no proof file: the checker looks for the proof itself, and finds none of what is no longer true.
-        sought = re.search(r"^fn (\S+): no proof: .*`search` does not close `returns", text, re.M)
-        if sought:
-            return "killed", sought.group(1) + ": no proof is found"
-        return ("killed", ran.group(1)) if ran else ("misfit", "no error was found in what the check said")
+        return ("killed", sought.group(1) + ": no proof is found") if sought else ("misfit", "no error was found in what the check said")
     message = re.match(r".*(\n  .*)*", text[first.start() :]).group(0)
     line = message.split("\n")[0]
-    where = first.group(1) + " " + " ".join(re.findall(r"`[^` ]+`", line)[:1])
-    tables = sorted(set(re.findall(r"specs/\S+: error: (`[^`]+`): expected type `T ", text)))
+    place = first.group(1) or ""
+    named = SOUGHT.findall(text, first.end())[:1] if line.startswith("note: ") else re.findall(r"`[^` ]+`", line)[:1]
+    tables = sorted(set(re.findall(r"^(?:\./)?(?:specs|proofs)/\w+\.antt:\S+ error: (`[^`]+`): expected type `T ", text, re.M)))
     # of a table's theorem the checker may say that what it computed is not shown; the theorem fails all the same
-    shape = "/specs/" not in first.group(1) and SHAPE.search(message)
-    return "misfit" if shape or MISFIT.search(line) else "killed", where + (", tables " + " ".join(tables) if tables else "")
+    shape = not place.startswith("specs/") and SHAPE.search(message)
+    where = " ".join(["%s/%s" % (crate, place)] + named) + (", tables " + " ".join(tables) if tables else "")
+    return "misfit" if shape or MISFIT.search(line) else "killed", where
+
+
+def verdict_on(e, place):
+    """The verdict on an edit that is made in the copy."""
+    end = time.time() + SECONDS
+    crates = checked_crates(e)
+    for crate in crates:
+        words = ["rt", "check" if crate == crates[-1] else "lib", "--jobs", "1"]
+        where = os.path.join(place, "crates", crate)
+        done = subprocess.run(words, cwd=where, stdout=subprocess.PIPE, stderr=subprocess.STDOUT, timeout=end - time.time())
+        if done.returncode:
+            return judged(crate, done.stdout.decode(errors="replace"))
+    wrong = differs(e.crate, place, end - time.time()) if program(e.crate) else ""
+    return ("killed", "%s: %s" % (e.crate, wrong)) if wrong else ("SURVIVED", "")
 
 
 def tried(e, place):
@@ -173,16 +215,14 @@ def tried(e, place):
     with open(path_of(e, place), "w") as f:
         f.write(e.applied(text))
     start = time.time()
-    environment = dict(os.environ, RT_JOBS="1", RT_CUT="400")
     try:
-        done = subprocess.run(command(e), cwd=place, env=environment, stdout=subprocess.PIPE, stderr=subprocess.STDOUT, timeout=SECONDS)
-        verdict, where = judged(done.returncode, done.stdout.decode(errors="replace"))
+        verdict, where = verdict_on(e, place)
     except subprocess.TimeoutExpired:
         verdict, where = "misfit", "no verdict in %d seconds" % SECONDS
     with open(path_of(e, place), "w") as f:
         f.write(text)
     # what a passed check, or one of several crates, has left there is not what is proved
-    if verdict == "SURVIVED" or command(e)[1] == "check":
+    if verdict == "SURVIVED" or e.upto:
         fresh(place)
     return {"verdict": verdict, "where": where, "seconds": round(time.time() - start, 1), "edit": "%s: %s" % (e.file, e.why)}
 
