@@ -20,10 +20,14 @@ import re
 import shutil
 import subprocess
 import sys
+import tempfile
 import time
 
 ROOT = os.path.dirname(os.path.dirname(os.path.abspath(__file__)))
 HOME = os.environ.get("MUTATE_HOME", os.path.join(ROOT, "target", "mutate"))
+# The copies stand outside the repository, where `rt ci` would find files that no check of it reads.
+AWAY = "hawsehole-mutate-" + hashlib.sha256(ROOT.encode()).hexdigest()[:8]
+COPIES = os.environ.get("MUTATE_HOME", os.path.join(tempfile.gettempdir(), AWAY))
 RESULTS = os.path.join(HOME, "results-facts.json")
 SECONDS = 600
 # Their definitions, where they have any, are for the code behind the public calls. Each is proved equal to the rules by a law or a contract.
@@ -248,7 +252,7 @@ class Base:
     """The copy with no edit."""
 
     def __init__(self, name, laws):
-        self.place, self.laws = os.path.join(HOME, name), laws
+        self.place, self.laws = os.path.join(COPIES, name), laws
 
     def prove(self):
         stripped(self.place, self.laws)

@@ -10,9 +10,9 @@
     python3 host/mutate.py --facts ..        the same of the edits of definitions, with no code there: host/facts.py says how
     python3 host/mutate.py --facts --each    one edit of each definition file, the first in the list; fails where one is not held
 
-An edit is made in a copy of the repository under target/mutate (or MUTATE_HOME), with what is proved already. The edited crate is then
-checked by `rt check` in its folder, and a program by `rt run` besides, on its `stdin`, held to its `stdout`; `upto NAME` in an edit has the
-edited crate and all up to NAME proved, crate after crate. An edit is
+An edit is made in a copy of the repository (in MUTATE_HOME, or else in a folder for temporary files), with what is proved already. The
+edited crate is then checked by `rt check` in its folder, and a program by `rt run` besides, on its `stdin`, held to its `stdout`; `upto NAME`
+in an edit has the edited crate and all up to NAME proved, crate after crate. An edit is
 
     killed    a proof, a table of cases or a run fails; the first error is shown
     misfit    refused, but only because a proof file no longer fits the code's shape, or the text makes no sense: it shows nothing
@@ -131,7 +131,7 @@ def fresh(place):
 
 
 def copies(todo, jobs):
-    return [fresh(os.path.join(HOME, "copy-%d" % (i + 1))) for i in range(jobs)]
+    return [fresh(os.path.join(facts.COPIES, "copy-%d" % (i + 1))) for i in range(jobs)]
 
 
 def program(crate):
