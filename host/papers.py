@@ -36,7 +36,7 @@ PAPERS = STRICT + [
 ]
 CRATES = sorted(os.listdir(os.path.join(ROOT, "crates")))
 # words of the language, of the checker and of the program's output, which are no names of a crate
-WORDS = "not getD rt requires ensures OK REFUSED".split()
+WORDS = "not get_or rt requires ensures OK REFUSED".split()
 NUMBERS = ("zero one two three four five six seven eight nine ten eleven twelve thirteen fourteen fifteen sixteen seventeen eighteen "
            "nineteen twenty").split()
 # files of specs/ that state facts of the definition and are no part of it
@@ -45,7 +45,7 @@ TABLES = re.compile(r"(Cases|Printed|Facts|Traces|Lib)\.antt$")
 PATH = re.compile(r"(?<![\w/.-])(?:crates|host|examples|docs|include|\.ci)/[\w./+-]*[\w+]")
 CITED = re.compile(r"(?<![\w/.-])`?(%s)/((?:specs/|proofs/|src/)?)(\w+)(?:\.antt|\.rt)?`?(?![\w/-])" % "|".join(CRATES))
 NAMES = re.compile(r"(?:,| and| \.\.)? \(?`([^`/]+)`\)?(?!/)")
-WORD = re.compile(r"`([A-Za-z][\w-]*(?:::\w+)?)`")
+WORD = re.compile(r"`([A-Za-z][\w'-]*(?:::\w+)?)`")
 DEFINED = re.compile(r"^ {0,4}(?:abbrev |unfoldable )?(?:pub )?(?:(?:record|data) ([^\s:(){}]+)|([^\s:(){}]+)(?= :(?:\s|$)))", re.M)
 WRITTEN = re.compile(r"^ *(?:pub )?(?:extern \"C\" )?(?:fn|struct|enum|const) (\w+)")
 
@@ -85,7 +85,7 @@ def cited_file(crate, kind, name):
     """The files that a citation may be for, the first of them that exists, or else None, in front."""
     here = "crates/%s/" % crate
     if kind == "proofs/":
-        files = [here + "proofs/%s.antt" % name, here + "proofs/%s/Proof.antt" % name]
+        files = [here + "proofs/%s.antt" % name] + [here + "proofs/%s/%s.antt" % (name, part) for part in ("Answers", "Invariants", "Proof")]
     elif kind == "specs/" or (not kind and name[0].isupper()):
         files = [here + "specs/%s.antt" % name]
     else:
@@ -151,7 +151,7 @@ class Paper:
             if m.group(1) not in promises.libraries():
                 continue
             code = promises.functions(m.group(1))
-            words = {f: set(re.split(r"[\s().,;⌜⌝]+", code.get(f, ""))) for f in re.findall(r"`([\w:]+)`", m.group(2))}
+            words = {f: set(re.split(r"[\s().,;{}]+", code.get(f, ""))) for f in re.findall(r"`([\w:]+)`", m.group(2))}
             cited, defined = set(), set()
             for _, file, _, names in citations(m.group(3)):
                 defined |= names_in(file) if file else set()
@@ -200,7 +200,7 @@ def main():
     for f in specs + proofs + code:
         known |= names_in(f)
     definitions = [bare(text_of(f)) for f in specs]
-    asking = [c for c in promises.libraries() for contract in promises.functions(c).values() if "requires {" in contract]
+    asking = [c for c in promises.libraries() for contract in promises.functions(c).values() if promises.asks(contract)]
     every, with_code = mutate.edits()
     counts = [
         (r"(\w+) (?:public|inner) functions(?= of| are| have)", len(asking)),
