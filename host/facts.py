@@ -39,6 +39,8 @@ TABLE = re.compile(r"(Cases|Printed)$")
 ERROR = re.compile(r"^(?:\./)?(\w+)/(\S+?)\.antt:\d+:\d+: error: (.*(?:\n +.*)*)", re.M)
 MISFIT = re.compile(r"not in scope|does not parse|cannot be named|no such name|unbound|has no field|has no `|is no name|cannot continue|expected the end|operand is missing")
 SHAPE = re.compile(r"no occurrence|could not be computed")
+# An error of a declaration begins with its name; one with no name is of a text that cannot be read.
+NAMED = re.compile(r"`[^`]+`: ")
 TYPE = re.compile(r"^(?:#\[derive\([^\n]*\)\]\n)?pub (?:struct|enum) (?:[^\n{]*;|[^\n{]*\{\n(?:.*\n)*?\})\n", re.M)
 USE = re.compile(r"^use (\w+)::(?:(\w+)|\{([^{}]*)\});\n", re.M)
 LAW = re.compile(r"^use Rattle\.(\w+)\.proofs\.(\w+)", re.M)
@@ -301,7 +303,7 @@ def judged(e, crate, text):
         line = message.split("\n")[0]
         told.append("%s/%s %s" % (crate, name, (re.findall(r"`([^` ]+)`", line) or ["?"])[0]))
         fact = folder == "proofs" and not SHAPE.search(message) if e.law else "%s/%s" % (folder, name) in every_table(crate)
-        if not fact or MISFIT.search(line):
+        if not fact or MISFIT.search(line) or not NAMED.match(line):
             return "misfit", told[-1] + ": " + line[:200]
     if e.law and e.law not in told:
         return "misfit", "another law: " + ", ".join(told)

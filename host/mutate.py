@@ -91,7 +91,7 @@ def key_of(e):
     """The edit, and the files of its crate as they are now."""
     sums = hashlib.sha256(repr((e.file, e.old, e.new, e.nth, e.upto)).encode())
     for folder, folders, files in os.walk(os.path.join(ROOT, "crates", e.crate)):
-        folders.sort()
+        folders[:] = sorted(name for name in folders if name != "out")
         for name in sorted(files):
             with open(os.path.join(folder, name), "rb") as f:
                 sums.update(name.encode() + b"\0" + f.read())
@@ -189,9 +189,12 @@ def judged(crate, text):
     named = SOUGHT.findall(text, first.end())[:1] if line.startswith("note: ") else re.findall(r"`[^` ]+`", line)[:1]
     tables = sorted(set(re.findall(r"^(?:\./)?(?:specs|proofs)/\w+\.antt:\S+ error: (`[^`]+`): expected type `T ", text, re.M)))
     # of a table's theorem the checker may say that what it computed is not shown; the theorem fails all the same
-    shape = not place.startswith("specs/") and SHAPE.search(message)
+    table = place.startswith("specs/") or place.partition(".antt")[0] in facts.every_table(crate)
+    shape = not table and SHAPE.search(message)
     where = " ".join(["%s/%s" % (crate, place)] + named) + (", tables " + " ".join(tables) if tables else "")
-    return "misfit" if shape or MISFIT.search(line) else "killed", where
+    said = line.partition(".antt:")[2].partition(": error: ")[2]
+    unread = said and not facts.NAMED.match(said)
+    return "misfit" if shape or unread or MISFIT.search(line) else "killed", where
 
 
 def verdict_on(e, place):
