@@ -8,7 +8,7 @@ use mathlib.Core.List.{List, [], ◌∷◌}
 use lib.Dec.{leb}
 use lib.ListN.{length, take, drop}
 use lib.Seq.{take-take}
-use borrow.Author.Tests.{leb-true, leb-false, eqb-true}
+use borrow.Author.Tests.{le-leb, lt-leb, leb-true, leb-false, eqb-true}
 use Rattle.units.specs.declared.Module.{Module}
 use Rattle.speed.proofs.Bounds.{bounds}
 use Rattle.layout.specs.Bytes.{record_of, records_of}
@@ -35,7 +35,6 @@ use Rattle.rules.specs.Report.{
   room,
   above_number_max,
   past_room,
-  at_most,
   within_room,
   records_in,
   records_lent,
@@ -54,6 +53,16 @@ use Rattle.admitting.proofs.Ladder.{records_ladder}
 -- verdict and reported record
 abbrev pub left_of : Went → Ran
 left_of w = ran w.verdict w.reported
+
+-- so many of the records, those whose numbers are not above 2^41
+abbrev pub at_most : ℕ → ℕ → ℕ
+at_most count most = cond (leb count most) count most
+
+pub at_most_all : (count most : ℕ) → count ≤ most → count ≡ at_most count most
+at_most_all count most h = rw (le-leb count most h)
+
+pub at_most_room : (count most : ℕ) → most < count → most ≡ at_most count most
+at_most_room count most h = rw (lt-leb count most h)
 
 pub most_fits : (count number : ℕ) → number ≤ number_max → number + at_most count (suc number_max - number) ≤ suc number_max
 most_fits count number h = go (leb count (suc number_max - number)) refl

@@ -1,6 +1,6 @@
 // The engine: records of a lent slice, each asked and then taken, up to the first that is refused. Every call of the device is
 // this: the one-record calls are the engine on one record.
-ghost use Rattle.std.specs.Prelude.{◌≡◌, ◌≤◌, ◌*◌, length, drop};
+ghost use Rattle.std.specs.Prelude.{◌≡◌, suc, ◌≤◌, ◌*◌, ◌-◌, cond, leb, length, drop};
 ghost use Rattle.layout.specs.Bytes.{records_of};
 ghost use Rattle.rules.specs.Parts.{core_module};
 ghost use Rattle.rules.specs.Calls.{Able};
@@ -16,7 +16,7 @@ use crate::{Went, Words, reporting};
 use bursts::{Beat, Bus};
 use bus::{databus, reads};
 use packed::inplace;
-use rules::{Bank, Core, Setup, StartUp, State, Verdict, clocks};
+use rules::{Bank, Core, NUMBER_MAX, Setup, StartUp, State, Verdict, clocks};
 use taking::leaving;
 use units::{Clock, Event, Module};
 
@@ -162,6 +162,18 @@ fn unmoved(v: Verdict, s: State) -> Went
     }
 }
 
+// How many of `count` records come before one whose number is above 2^41.
+fn before_max(count: usize, number: u64) -> usize
+    requires { number ≤ number_max }
+    ensures { result ≡ cond (leb count (suc number_max - number)) count (suc number_max - number) }
+{
+    let room = NUMBER_MAX + 1 - number;
+    if count as u64 <= room {
+        return count;
+    }
+    room as usize
+}
+
 // The record after those that were taken has a number above 2^41: it gets 25, as from the one-record call.
 fn above_max(w: Went) -> Went
     ensures { result ≡ above_max w }
@@ -200,7 +212,7 @@ pub fn judge(
     };
     let core = s.core;
     let banks = s.banks;
-    let some = rules::before_max(count, core.number);
+    let some = before_max(count, core.number);
     let end = 16 * some;
     let w = fold(u, core, banks, &bytes[0..end], some, page, beats);
     if some < count {

@@ -22,14 +22,14 @@ use Rattle.rules.specs.Rules.{ask}
 use Rattle.rules.specs.After.{core_from, core_after, next}
 use Rattle.rules.specs.Run.{line, run, page_after}
 use Rattle.rules.specs.OneRecord.{state_rules, entry_rules, Stepped, step, record_for}
-use Rattle.rules.specs.Report.{put_line, lines_into, Left, left, ran, fold, records_rules, room, past_room, at_most, records_call}
+use Rattle.rules.specs.Report.{put_line, lines_into, Left, left, ran, fold, records_rules, room, past_room, records_call}
 use Rattle.rules.specs.Fits.{number_max, fits}
 use Rattle.rules.proofs.Admitted.{admitted}
 use Rattle.rules.proofs.Kept.{kept}
 use Rattle.rules.proofs.Runs.{next_number, page_next}
 use Rattle.rules.proofs.OneRecord.{refused, taken, step_refuses, entry_refused, taken_at_zero, step_taken}
 use Rattle.admitting.proofs.Ladder.{records_ladder}
-use Rattle.device.proofs.Starts.{Entry, entry_of, records_entered, records_past}
+use Rattle.device.proofs.Starts.{at_most, Entry, entry_of, records_entered, records_past}
 use Rattle.device.proofs.Ready.{Ready, ready_of, ready_entered, ready_next}
 use Rattle.device.proofs.Joined.{longer, longer_is}
 use Rattle.device.proofs.FoldRun.{fold_taken, fold_refused}

@@ -1,9 +1,8 @@
 -- The calls of the live monitor by cases: the answer's word, each word of the state, the page and the lent beat (02, K7). Assumes
 -- nothing.
-use Rattle.std.specs.Prelude.{ℕ, ◌+◌, ◌*◌, ◌^◌, ◌≡◌, refl, Bool, ◌&&◌, List, [], ◌∷◌, ◌++◌, eqb, T, replicate, set}
+use Rattle.std.specs.Prelude.{ℕ, ◌+◌, ◌*◌, ◌^◌, ◌≡◌, refl, List, [], ◌∷◌, ◌++◌, replicate, set}
 use Rattle.bursts.specs.Cases.{Row, ◌gives◌, found, expected}
 use Rattle.units.specs.Module.{module_of}
-use Rattle.units.specs.Facts.{all_true, same_numbers}
 use Rattle.speed.specs.declared.SpeedTable.{SpeedTable}
 use Rattle.speed.specs.Table.{table, grade_133, table_fits}
 use Rattle.layout.specs.Commands.{column_on}
@@ -184,45 +183,38 @@ asks =
 
 -- ── Taking ──
 
-abbrev as_lent : List ℕ
-as_lent = replicate 16384 7
+-- what taking leaves
+abbrev leaves : ℕ → List ℕ → List ℕ → List ℕ → Monitored
+leaves word words page beat = record { word = word; words = words; page = page; beat = beat }
 
 abbrev takes : List ℕ → List ℕ → List ℕ → Monitored
-takes words bytes beat = take_words (with_table grade_133) words bytes as_lent beat
-
--- the answer's word, the state's words, the beat and the page
-abbrev leaves : Monitored → ℕ → List ℕ → List ℕ → List ℕ → Bool
-leaves m word words beat page =
-    eqb m.word word
-    && same_numbers m.words words
-    && same_numbers m.beat beat
-    && same_numbers m.page page
+takes words bytes beat = take_words (with_table grade_133) words bytes (replicate 16384 7) beat
 
 -- a NOP with masks 00 as the first record, on clock 0
 abbrev after_nop : List ℕ
 after_nop = words_with (7500 ∷ 2 ∷ 1 ∷ 7 ∷ 6 ∷ 1 ∷ 0 ∷ []) 0 255 255
 
-abbrev taken : List Bool
+abbrev taken : List (Row Monitored)
 taken =
     -- the next state's words; "a taken record's two beat words go to `beat` as far as it has room"
-    leaves (takes (start_of 5) nop (9 ∷ 9 ∷ 9 ∷ [])) (5 * 65_536) after_nop (0 ∷ 0 ∷ 9 ∷ []) as_lent
-    ∷ leaves (takes (start_of 5) nop (9 ∷ [])) (5 * 65_536) after_nop (0 ∷ []) as_lent
-    ∷ leaves (takes (start_of 5) nop []) (5 * 65_536) after_nop [] as_lent
+    takes (start_of 5) nop (9 ∷ 9 ∷ 9 ∷ []) gives leaves (5 * 65_536) after_nop (replicate 16384 7) (0 ∷ 0 ∷ 9 ∷ [])
+    ∷ takes (start_of 5) nop (9 ∷ []) gives leaves (5 * 65_536) after_nop (replicate 16384 7) (0 ∷ [])
+    ∷ takes (start_of 5) nop [] gives leaves (5 * 65_536) after_nop (replicate 16384 7) []
     -- the second stands on clock 1
-    ∷ leaves (takes after_nop nop (9 ∷ 9 ∷ [])) (6 * 65_536)
-    (words_with (7500 ∷ 2 ∷ 1 ∷ 7 ∷ 7 ∷ 1 ∷ 1 ∷ []) 0 0 255) (0 ∷ 1 ∷ []) as_lent
+    ∷ takes after_nop nop (9 ∷ 9 ∷ []) gives leaves (6 * 65_536)
+    (words_with (7500 ∷ 2 ∷ 1 ∷ 7 ∷ 7 ∷ 1 ∷ 1 ∷ []) 0 0 255) (replicate 16384 7) (0 ∷ 1 ∷ [])
     -- a WRITE: its burst, the bank's store, the byte in the page, its beat on clock 34
-    ∷ leaves (takes (open_after 33) write_1 (9 ∷ 9 ∷ [])) (5 * 65_536)
-    (opened 6 34 (1 ∷ 0 ∷ 1 ∷ 7 ∷ 5 ∷ 34 ∷ 0 ∷ 0 ∷ 0x30 ∷ []) (0xfe ∷ 1 ∷ 2 ∷ []) (1 ∷ 34 ∷ []))
-    ((2 * 2 ^ 48 + 1 * 2 ^ 40 + 7 * 2 ^ 24 + 5 * 2 ^ 8 + 1) ∷ 34 ∷ []) (set as_lent 40 8)
+    ∷ takes (open_after 33) write_1 (9 ∷ 9 ∷ []) gives leaves (5 * 65_536)
+    (opened 6 34 (1 ∷ 0 ∷ 1 ∷ 7 ∷ 5 ∷ 34 ∷ 0 ∷ 0 ∷ 0x30 ∷ []) (0xfe ∷ 1 ∷ 2 ∷ []) (1 ∷ 34 ∷ [])) (set (replicate 16384 7) 40 8)
+    ((2 * 2 ^ 48 + 1 * 2 ^ 40 + 7 * 2 ^ 24 + 5 * 2 ^ 8 + 1) ∷ 34 ∷ [])
     -- what asking refuses leaves words, page and beat
-    ∷ leaves (takes (open_after 31) write_1 (9 ∷ 9 ∷ [])) (5 * 65_536 + 1 * 256 + 16) (open_after 31) (9 ∷ 9 ∷ []) as_lent
-    ∷ leaves (takes (start_of 5) active_1 (9 ∷ 9 ∷ [])) (5 * 65_536 + 14) (start_of 5) (9 ∷ 9 ∷ []) as_lent
-    ∷ leaves (takes (other 6 1) nop (9 ∷ 9 ∷ [])) 25 (other 6 1) (9 ∷ 9 ∷ []) as_lent
-    ∷ leaves (takes (replicate 93 0) nop (9 ∷ 9 ∷ [])) 25 (replicate 93 0) (9 ∷ 9 ∷ []) as_lent
-    ∷ leaves (takes (start_of 5) (replicate 15 0) (9 ∷ [])) 1 (start_of 5) (9 ∷ []) as_lent
+    ∷ takes (open_after 31) write_1 (9 ∷ 9 ∷ []) gives leaves (5 * 65_536 + 1 * 256 + 16) (open_after 31) (replicate 16384 7) (9 ∷ 9 ∷ [])
+    ∷ takes (start_of 5) active_1 (9 ∷ 9 ∷ []) gives leaves (5 * 65_536 + 14) (start_of 5) (replicate 16384 7) (9 ∷ 9 ∷ [])
+    ∷ takes (other 6 1) nop (9 ∷ 9 ∷ []) gives leaves 25 (other 6 1) (replicate 16384 7) (9 ∷ 9 ∷ [])
+    ∷ takes (replicate 93 0) nop (9 ∷ 9 ∷ []) gives leaves 25 (replicate 93 0) (replicate 16384 7) (9 ∷ 9 ∷ [])
+    ∷ takes (start_of 5) (replicate 15 0) (9 ∷ []) gives leaves 1 (start_of 5) (replicate 16384 7) (9 ∷ [])
     ∷ []
 
-pub monitor_right : (found starts ≡ expected starts) × (found asks ≡ expected asks) × T (all_true taken)
+pub monitor_right : (found starts ≡ expected starts) × (found asks ≡ expected asks) × (found taken ≡ expected taken)
 unfolding bank-rules beat_word put_line module_of column_on has_pins lane_masks table_fits record_from length_of beat_column has_beat write_beat read_beat finished masks_on masks_after reads_from bus_after beat_on bursts_finished driven bus_clear put_lanes stored allowed banks_found of_closing of_any of_active of_access of_precharged of_precharge of_idle events minima every_rules place_rules minimum_rules mode_rules bus_rules command_rules rules ask startup_after beat core_from core_after bank_after commanded mark_banks banks_after next run page_after read_record state_rules entry_rules bank_fits burst_fits core_fits fits all_taken ask_call take_call small middle flag event_in refreshes_in register_in startup_in burst_in masks_in bus_in core_in status_in bank_in state_in words_of same holds put_words grade_rules start_rules start_call monitor_rules ask_words take_words
-monitor_right = (refl, refl, tt)
+monitor_right = (refl, refl, refl)

@@ -56,12 +56,9 @@ fold u s rs page beats =
 unfoldable pub records_rules : Setup → State → ℕ → ℕ → List Rule
 records_rules u s bytes lent = rule 1 0 (eqb (bytes % 16) 0) ∷ state_rules u s lent
 
--- how many records come before one whose number is above 2^41, where the first has number k
-abbrev pub room_from : ℕ → ℕ
-room_from k = suc number_max - k
-
+-- how many records come before one whose number is above 2^41
 abbrev pub room : State → ℕ
-room s = room_from s.core.number
+room s = suc number_max - s.core.number
 
 -- where there are more and those before it were taken, that one gets 25 as from the one-record call: "report record 0"
 abbrev pub above_number_max : Ran → Ran
@@ -70,13 +67,9 @@ above_number_max r = elim r.verdict [ Taken ↦ ran (Refused 25 0) 0 | Refused n
 abbrev pub past_room : Left → Left
 past_room l = left (above_number_max l.ran) l.page l.beats
 
--- so many, and no more than `most`
-abbrev pub at_most : ℕ → ℕ → ℕ
-at_most count most = cond (leb count most) count most
-
 -- so many of these records, those before one whose number is above 2^41
 abbrev pub within_room : State → ℕ → ℕ
-within_room s count = at_most count (room s)
+within_room s count = cond (leb count (room s)) count (room s)
 
 -- the records of these bytes that a call may take
 abbrev pub records_in : State → List ℕ → List Record

@@ -4,7 +4,6 @@
 ghost use Rattle.std.specs.Prelude.{◌≡◌};
 ghost use Rattle.rules.specs.Numbers.{number_of, interval_of};
 ghost use Rattle.rules.specs.OneRecord.{period_fits, grade_known};
-ghost use Rattle.rules.specs.Report.{room_from, at_most};
 
 pub mod banks;
 pub mod clocks;
@@ -160,18 +159,4 @@ pub fn grade_known(grade: u8) -> bool
     ensures { result ≡ grade_known grade }
 {
     (grade == 1) | (grade == 2)
-}
-
-// How many of `count` records come before one whose number is above 2^41, where the first has this number.
-pub fn before_max(count: usize, number: u64) -> usize
-    ensures { result ≡ at_most count (room_from number) }
-{
-    if NUMBER_MAX < number {
-        return 0;
-    }
-    let room = NUMBER_MAX + 1 - number;
-    if count as u64 <= room {
-        return count;
-    }
-    room as usize
 }

@@ -5,8 +5,7 @@ use Rattle.units.specs.declared.Module.TheVariants.{Bench, Handheld}
 use Rattle.units.specs.declared.Clock.{Clock}
 use Rattle.units.specs.declared.Event.TheVariants.{Never, On}
 use Rattle.units.specs.Module.{banks, rows, columns, bench_columns, lanes, has_full_page, page_bytes, module_of}
-use Rattle.units.specs.Time.{clock, time, at, clocks_after, plus, later, by, occurred, clocks_of}
-use Rattle.units.specs.Reach.{lasts}
+use Rattle.units.specs.Time.{clock, time, at, clocks_after, plus, later, by, occurred, clocks_of, lasts}
 use Rattle.units.specs.Facts.{all_true, same_numbers}
 
 -- ── The modules ──

@@ -1,3 +1,4 @@
+-- Each case takes bytes.
 use Rattle.std.proofs.Common.{◌-◌, ◌≤◌, length}
 use Rattle.bench.proofs.all_cases.Given as goal
 

@@ -1,3 +1,4 @@
+-- The buffer fills up.
 use Rattle.std.proofs.Common.{◌-◌, ◌≤◌, length}
 use Rattle.bench.proofs.read_full.Given as goal
 

@@ -1,3 +1,4 @@
+-- The buffer fills up.
 use Rattle.std.proofs.Common.{◌-◌, ◌≤◌, length}
 use Rattle.explain.proofs.read_full.Given as goal
 

@@ -1,3 +1,4 @@
+-- `judge::print_input` meets its contract.
 use Rattle.std.proofs.Common.{◌≡◌, arith, rules, length}
 use Rattle.lines.specs.Text.{too_long}
 use Rattle.lines.proofs.Fits.{laid_holds}

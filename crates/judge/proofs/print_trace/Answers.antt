@@ -1,3 +1,4 @@
+-- `judge::print_trace` meets its contract.
 use Rattle.std.proofs.Common.{◌≡◌, rules, length}
 use Rattle.judge.proofs.Answers.{printed_held}
 use Rattle.judge.proofs.print_trace.Goals as goal

@@ -1,3 +1,4 @@
+-- `judge::read_full` meets its contract: the bytes so far and those of a read are what was taken.
 use Rattle.std.proofs.Common.{rules, length, ◌-◌}
 use Rattle.judge.proofs.Reading.{both_parts, both_taken}
 use Rattle.judge.proofs.read_full.Goals as goal

@@ -1,3 +1,4 @@
+-- What the buffer holds so far is what was taken.
 use Rattle.std.proofs.Common.{◌-◌, ◌≤◌, length, take}
 use Rattle.std.specs.Io.KnownBytes.{Consumes}
 use Rattle.judge.proofs.read_full.Given as goal

@@ -1,3 +1,4 @@
+-- `judge::run` meets its contract: what was read says what is printed of all there is to read.
 use Rattle.std.proofs.Common.{rules, List, ℕ, subst}
 use Rattle.std.proofs.lemmas.Result.{on_ok_weaker}
 use Rattle.std.specs.Io.KnownBytes.{Appends}

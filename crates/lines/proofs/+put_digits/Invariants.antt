@@ -1,3 +1,4 @@
+-- Each digit takes a place.
 use Rattle.lines.proofs.+put_digits.Given as goal
 
 abbrev pub decreases-put_digits : goal.decreases-put_digits

@@ -13,6 +13,9 @@ returns-in_default c = let a = c.args in
     rw (c.unmoved.ensures, c.in_default.is)
     (sym (lent_refused a.u a.s a.bytes.now a.lent a.page.now a.beats.now _ _ p), next_out a.u a.s a.bytes.now a.lent _ _ p, beat_out a.u a.s a.bytes.now a.lent _ _ p)
 
+pub before_max-some-requires : goal.before_max-some-requires
+before_max-some-requires c = let p = sym c.records_verdict-v.ensures ∙ c.in-Taken.is in (entry_of _ _ _ _ p).number
+
 pub fold-w-requires : goal.fold-w-requires
 fold-w-requires c =
     let a = c.args in

@@ -1,3 +1,4 @@
+-- The text that is left grows shorter.
 use Rattle.std.proofs.Common.{◌-◌, ◌≤◌, length}
 use Rattle.explain.proofs.figures.line_end.Given as goal
 

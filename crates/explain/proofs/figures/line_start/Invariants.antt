@@ -1,3 +1,4 @@
+-- Each line that is passed leaves one less.
 use Rattle.std.proofs.Common.{◌≤◌, length}
 use Rattle.explain.proofs.figures.line_start.Given as goal
 
