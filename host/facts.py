@@ -39,6 +39,8 @@ TABLE = re.compile(r"(Cases|Printed)$")
 ERROR = re.compile(r"^(?:\./)?(\w+)/(\S+?)\.antt:\d+:\d+: error: (.*(?:\n +.*)*)", re.M)
 MISFIT = re.compile(r"not in scope|does not parse|cannot be named|no such name|unbound|has no field|has no `|is no name|cannot continue|expected the end|operand is missing")
 SHAPE = re.compile(r"no occurrence|could not be computed")
+# What was not checked, since it stands on a declaration that another error names.
+FOLLOWS = re.compile(r"depends? on `[^`]+`, which was (?:not admitted|rejected)")
 # An error of a declaration begins with its name; one with no name is of a text that cannot be read.
 NAMED = re.compile(r"`[^`]+`: ")
 TYPE = re.compile(r"^(?:#\[derive\([^\n]*\)\]\n)?pub (?:struct|enum) (?:[^\n{]*;|[^\n{]*\{\n(?:.*\n)*?\})\n", re.M)
@@ -295,7 +297,7 @@ def copies(todo, jobs):
 
 def judged(e, crate, text):
     """held or misfit, and what refused."""
-    errors = [found for found in ERROR.findall(text) if "was not admitted" not in found[2].split("\n")[0]]
+    errors = [found for found in ERROR.findall(text) if not FOLLOWS.search(found[2].split("\n")[0])]
     if not errors or not re.search(r"^logic=not-proved", text, re.M):
         return "misfit", "no error was found in what the check said: " + text.strip().split("\n")[-1][:200]
     told = []
