@@ -32,7 +32,7 @@ fn fit_verdict(u: Setup, s: State, lent: usize) -> Verdict
 
 // 3, 4, 6, 7 and 25.
 #[tactic(auto, unfolding(rules::specs::OneRecord::state_rules))]
-fn state_verdict(u: Setup, s: State, lent: usize) -> Verdict
+pub fn state_verdict(u: Setup, s: State, lent: usize) -> Verdict
     ensures { result ≡ first_broken (state_rules u s lent) }
 {
     let core = s.core;
