@@ -313,7 +313,7 @@ def judged(e, crate, text):
 
 
 def refused(e, place, laws, done):
-    """The verdict on the edit: crate after crate from its own on, each with one table at a time, then with all."""
+    """The verdict on the edit: crate after crate from its own on, each with one table at a time, then with all; or with these laws alone."""
     for c in above(place, e.crate):
         done.append(c)
         groups = [kept(c, laws)] if e.law else tables(c)
@@ -332,7 +332,7 @@ def tried(e, pair):
     start, done, copy = time.time(), [], pair[1 if e.law else 0]
     copy.make()
     try:
-        verdict, where = refused(e, copy.place, copy.base.laws, done)
+        verdict, where = refused(e, copy.place, laws_for([e]), done)
     except subprocess.TimeoutExpired:
         verdict, where = "misfit", "no verdict in %d seconds" % SECONDS
     copy.put_back(done)

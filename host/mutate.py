@@ -188,13 +188,13 @@ def judged(crate, text):
     place = first.group(1) or ""
     named = SOUGHT.findall(text, first.end())[:1] if line.startswith("note: ") else re.findall(r"`[^` ]+`", line)[:1]
     tables = sorted(set(re.findall(r"^(?:\./)?(?:specs|proofs)/\w+\.antt:\S+ error: (`[^`]+`): expected type `T ", text, re.M)))
-    # of a table's theorem the checker may say that what it computed is not shown; the theorem fails all the same
+    # where a table's theorem fails, a fact refuses the edit, whatever else is said; of one the checker may say that what it computed is not shown
     table = place.startswith("specs/") or place.partition(".antt")[0] in facts.every_table(crate)
     shape = not table and SHAPE.search(message)
     where = " ".join(["%s/%s" % (crate, place)] + named) + (", tables " + " ".join(tables) if tables else "")
     said = line.partition(".antt:")[2].partition(": error: ")[2]
     unread = said and not facts.NAMED.match(said)
-    return "misfit" if shape or unread or MISFIT.search(line) else "killed", where
+    return "misfit" if not tables and (shape or unread or MISFIT.search(line)) else "killed", where
 
 
 def verdict_on(e, place):
