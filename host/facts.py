@@ -245,11 +245,14 @@ def checked(place, crate, is_last):
 
 
 def link(one, other):
-    """What was proved is linked: a check replaces such a file and changes none."""
-    if one.endswith(".oantt"):
-        os.link(one, other)
-    else:
-        shutil.copy2(one, other)
+    """What was proved is linked, within a file system: a check replaces such a file and changes none."""
+    try:
+        if one.endswith(".oantt"):
+            os.link(one, other)
+            return
+    except OSError:
+        pass
+    shutil.copy2(one, other)
 
 
 class Base:
