@@ -1,5 +1,6 @@
 #!/usr/bin/env python3
-"""Brings the edits of host/mutations.txt to today's spelling. Run once, at the top, after port.py and tools/port_names.py.
+"""Brings the edits of host/mutations.txt to today's spelling. Run once, at the top, after port.py and tools/port_names.py; docs/PORT.md says
+which edits were changed by hand afterwards, so it is not to be run again.
 
 BEFORE is the last commit before the sources were respelled, and its list fits its files but for the code that MOVED, which LANDED has where
 the list says. TURNED is the commit in which the files are respelled.
@@ -179,4 +180,5 @@ def main():
     return 1 if failed else 0
 
 
-sys.exit(main())
+if __name__ == "__main__":
+    sys.exit(main())

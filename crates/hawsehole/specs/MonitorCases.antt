@@ -15,7 +15,7 @@ use Rattle.page.specs.Store.{put_lanes, stored}
 use Rattle.rules.specs.StartUp.{allowed}
 use Rattle.rules.specs.Banks.{banks_found}
 use Rattle.rules.specs.Minima.{of_closing, of_any, of_active, of_access, of_precharged, of_precharge, of_idle, events, minima}
-use Rattle.rules.specs.Rules.{every_rules, place_rules as bank-rules, minimum_rules, mode_rules, bus_rules, command_rules, rules, ask}
+use Rattle.rules.specs.Rules.{every_rules, place_rules as bank_rules, minimum_rules, mode_rules, bus_rules, command_rules, rules, ask}
 use Rattle.rules.specs.After.{
   startup_after,
   beat,
@@ -216,5 +216,5 @@ taken =
     ∷ []
 
 pub monitor_right : (found starts ≡ expected starts) × (found asks ≡ expected asks) × (found taken ≡ expected taken)
-unfolding bank-rules beat_word put_line module_of column_on has_pins lane_masks table_fits record_from length_of beat_column has_beat write_beat read_beat finished masks_on masks_after reads_from bus_after beat_on bursts_finished driven bus_clear put_lanes stored allowed banks_found of_closing of_any of_active of_access of_precharged of_precharge of_idle events minima every_rules place_rules minimum_rules mode_rules bus_rules command_rules rules ask startup_after beat core_from core_after bank_after commanded mark_banks banks_after next run page_after read_record state_rules entry_rules bank_fits burst_fits core_fits fits all_taken ask_call take_call small middle flag event_in refreshes_in register_in startup_in burst_in masks_in bus_in core_in status_in bank_in state_in words_of same holds put_words grade_rules start_rules start_call monitor_rules ask_words take_words
+unfolding bank_rules beat_word put_line module_of column_on has_pins lane_masks table_fits record_from length_of beat_column has_beat write_beat read_beat finished masks_on masks_after reads_from bus_after beat_on bursts_finished driven bus_clear put_lanes stored allowed banks_found of_closing of_any of_active of_access of_precharged of_precharge of_idle events minima every_rules place_rules minimum_rules mode_rules bus_rules command_rules rules ask startup_after beat core_from core_after bank_after commanded mark_banks banks_after next run page_after read_record state_rules entry_rules bank_fits burst_fits core_fits fits all_taken ask_call take_call small middle flag event_in refreshes_in register_in startup_in burst_in masks_in bus_in core_in status_in bank_in state_in words_of same holds put_words grade_rules start_rules start_call monitor_rules ask_words take_words
 monitor_right = (refl, refl, refl)

@@ -155,13 +155,13 @@ module _ (P : Burst → Type 0) (n : Clock) (none : P no_burst) (cut : (x : Bool
       → EachBurst P (bus_after k r n word row u)
   unfolding bus_after reads_from
   bus_keeps k r word row u new f =
-      let Cut-all = cut_each_keeps k r.addr r.ba in
+      let cut_all = cut_each_keeps k r.addr r.ba in
       record {
         write = cond_keeps P (is k Write) _ _ new (cut (ends k r.addr r.ba u.write.bank) u.write f.write);
         reads =
             cond_keeps (Each P) (is k Write) _ _ (written_keeps u.reads f.reads)
-            (cond_keeps (Each P) (is k Read) _ _ (new, Cut-all (with_room n u.reads) (room_keeps u.reads f.reads))
-            (Cut-all u.reads f.reads));
+            (cond_keeps (Each P) (is k Read) _ _ (new, cut_all (with_room n u.reads) (room_keeps u.reads f.reads))
+            (cut_all u.reads f.reads));
       }
 
 banks_each : (P : Bank → Type 0) (f : ℕ → Bank → Bank) → ((i : ℕ) (b : Bank) → P b → P (f i b)) → (i : ℕ) (bs : List Bank) → Each P bs
