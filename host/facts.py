@@ -31,7 +31,7 @@ COPIES = os.environ.get("MUTATE_HOME", os.path.join(tempfile.gettempdir(), AWAY)
 RESULTS = os.path.join(HOME, "results-facts.json")
 SECONDS = 600
 # Their definitions, where they have any, are for the code behind the public calls. Each is proved equal to the rules by a law or a contract.
-BRIDGES = ("bus", "asking", "taking", "admitting", "packed", "device", "hawsehole_c", "explain", "bench")
+BRIDGES = ("bus", "asking", "taking", "admitting", "packed", "device", "hawsehole_c", "reading", "explain", "bench")
 # No definitions of answers: facts for theorems, which need the code's own laws; and what tables share.
 OUTSIDE = ("hawsehole/Walk", "rules/Demand3", "rules/Calls", "units/Facts", "hawsehole/Traces")
 TABLE = re.compile(r"(Cases|Printed)$")

@@ -15,6 +15,7 @@ MODIFIERS = re.compile(r"^(?:(?:unfoldable|abbrev|pub|ruleset|record|data|derivi
 SKIPPED = ("use ", "infix", "unfolding", "mod ", "pub mod", "open ", "pub use")
 TOKEN = re.compile(r"[A-Za-z0-9_'⊑\-]+")
 TICKED = re.compile(r"`[^`]*`")
+QUOTED = re.compile(r'("[^"]*")')
 SUFFIXES = ("", "-spec", "-reads")
 
 
@@ -83,7 +84,9 @@ def table():
 
 
 def respelled(text, names):
-    return TOKEN.sub(lambda m: names.get(m.group(0), m.group(0)), text)
+    """The text with its names turned; what stands between double quotes is printed, or quoted from a paper, and stays."""
+    parts = QUOTED.split(text)
+    return "".join(part if part.startswith('"') else TOKEN.sub(lambda m: names.get(m.group(0), m.group(0)), part) for part in parts)
 
 
 def turned(line, names, comment):

@@ -122,23 +122,8 @@ fn all_cases(rt: &impl Print, cases: &[u8]) -> io::Result<()> {
     Ok(())
 }
 
-// Reads until the buffer is full or the input ends, and answers how many bytes it put at the buffer's start.
-fn read_full(input: &mut impl Read, buf: &mut [u8]) -> io::Result<usize>
-    ensures { IfOk result (λ n. n ≤ length buf.new) }
-{
-    let mut done = 0;
-    while done < buf.len() {
-        let n = input.read(&mut buf[done..])?;
-        if n == 0 {
-            return Ok(done);
-        }
-        done += n;
-    }
-    Ok(done)
-}
-
 fn main(rt: HostRuntime) -> io::Result<()> {
     let mut buf = [0u8; 65_536];
-    let n = read_full(&mut rt.stdin(), &mut buf)?;
+    let n = reading::read_full(&mut rt.stdin(), &mut buf)?;
     all_cases(&rt, &buf[..n])
 }

@@ -88,25 +88,10 @@ fn say(to: &mut impl Write, out: &[u8], bytes: usize) -> io::Result<()> {
     Ok(())
 }
 
-// Reads until the buffer is full or the input ends, and answers how many bytes it put at the buffer's start.
-fn read_full(input: &mut impl Read, buf: &mut [u8]) -> io::Result<usize>
-    ensures { IfOk result (λ n. n ≤ length buf.new) }
-{
-    let mut done = 0;
-    while done < buf.len() {
-        let n = input.read(&mut buf[done..])?;
-        if n == 0 {
-            return Ok(done);
-        }
-        done += n;
-    }
-    Ok(done)
-}
-
 fn main(rt: HostRuntime) -> io::Result<()> {
     // one byte more than the longest trace, to tell a longer one
     let mut input = [0u8; TRACE_MAX + 1];
-    let n = read_full(&mut rt.stdin(), &mut input)?;
+    let n = reading::read_full(&mut rt.stdin(), &mut input)?;
     let mut out = [0u8; TEXT_MAX];
     let bytes = explain_input(&input[..n], &mut out);
     say(&mut rt.stdout(), &out, bytes)

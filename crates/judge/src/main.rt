@@ -70,30 +70,13 @@ fn print_input(input: &[u8], out: &mut [u8; TEXT_MAX]) -> usize
     print_trace(input, out)
 }
 
-// Reads until the buffer is full or the input ends, and answers how many bytes it put at the buffer's start.
-fn read_full<R: Read>(input: &mut R, buf: &mut [u8]) -> io::Result<usize>
-    ensures within { IfOk result (λ n. n ≤ length buf.new) }
-    ensures taken { IfOk result (λ n. Consumes (R.remaining input.old) (R.remaining input.new) (take n buf.new)) }
-    ensures ended { IfOk result (λ n. n < length buf.new → IsAtEnd (R.remaining input.new)) }
-{
-    let mut done = 0;
-    while done < buf.len() {
-        let n = input.read(&mut buf[done..])?;
-        if n == 0 {
-            return Ok(done);
-        }
-        done += n;
-    }
-    Ok(done)
-}
-
 // Reads an input, and writes all that is printed of it; nothing where a read fails.
 fn run<R: Read, W: Write>(input: &mut R, to: &mut W) -> io::Result<()>
     ensures { OnOk result (IfSome (R.remaining input.old) (λ bytes. Appends (W.contents to.old) (W.contents to.new) (output bytes))) }
 {
     // one byte more than the longest trace, to tell a longer one
     let mut trace = [0u8; TRACE_MAX + 1];
-    let n = read_full(input, &mut trace)?;
+    let n = reading::read_full(input, &mut trace)?;
     let mut out = [0u8; TEXT_MAX];
     let bytes = print_input(&trace[..n], &mut out);
     to.write_all(&out[..bytes])

@@ -1,10 +1,10 @@
 -- `asking::commands::ask_active` meets its contract.
+use borrow.Author.Rules.{rules}
 use Rattle.asking.proofs.Ladders.{started, active_ladder}
 use Rattle.rules.specs.StartUp.{begun}
 use mathlib.Core.Bool.{false, ◌&&◌}
-use mathlib.Core.Path.{◌≡◌, sym, ◌∙◌}
+use mathlib.Core.Path.{◌≡◌}
 use Rattle.asking.proofs.commands.ask_active.Goals as goal
-use Rattle.asking.proofs.commands.ask_active.Goals.{then-begun+else-started, else-begun}
 
 pub returns-then-is_closed : goal.returns-then-is_closed
 returns-then-is_closed c = rw (active_ladder _ c.args.c _ _ _ _, ← c.begun.ensures, c.if-begun.true, ← c.started.ensures, c.if-started.true, ← c.requires.1, ← c.is_closed.ensures, c.if-is_closed.true, ← c.any_shorts-any.ensures, ← c.active_shorts-others.ensures, ← c.either.ensures, ← c.lowest.ensures)
@@ -15,9 +15,5 @@ returns-then-started c = rw (c.refused.ensures, active_ladder _ c.args.c _ _ _ _
 pub returns : goal.returns
 returns c =
     let u = c.args.c.startup in
-    let e : (begun u && started u) ≡ false =
-    elim c.if-begun.branch [
-      | then-begun+else-started w ↦ rw (sym c.begun.ensures ∙ w.if-begun.true, sym w.started.ensures ∙ w.if-started.false)
-      | else-begun w ↦ rw (sym c.begun.ensures ∙ w.if-begun.false)
-    ] in
+    let e : (begun u && started u) ≡ false = search rules in
     rw (c.refused-2.ensures, active_ladder _ c.args.c _ _ _ _, e)

@@ -1,7 +1,7 @@
--- `judge::read_full` meets its contract: the bytes so far and those of a read are what was taken.
+-- `reading::read_full` meets its contract: the bytes so far and those of a read are what was taken.
 use Rattle.std.proofs.Common.{rules, length, ◌-◌}
-use Rattle.judge.proofs.Reading.{both_parts, both_taken}
-use Rattle.judge.proofs.read_full.Goals as goal
+use Rattle.reading.proofs.Parts.{both_parts, both_taken}
+use Rattle.reading.proofs.read_full.Goals as goal
 
 pub loop-done-preserved : goal.loop-done-preserved
 loop-done-preserved g c =
