@@ -16,6 +16,8 @@ SKIPPED = ("use ", "infix", "unfolding", "mod ", "pub mod", "open ", "pub use")
 TOKEN = re.compile(r"[A-Za-z0-9_'⊑\-]+")
 TICKED = re.compile(r"`[^`]*`")
 QUOTED = re.compile(r'("[^"]*")')
+# a comment of src/, a text, or a character
+APART = re.compile(r'(//[^\n]*|"(?:\\.|[^"\\])*"|\'(?:\\.|[^\'\\])\')', re.S)
 SUFFIXES = ("", "-spec", "-reads")
 
 
@@ -89,13 +91,28 @@ def respelled(text, names):
     return "".join(part if part.startswith('"') else TOKEN.sub(lambda m: names.get(m.group(0), m.group(0)), part) for part in parts)
 
 
+def commented(comment, names):
+    """A comment, with the names between backticks turned."""
+    return TICKED.sub(lambda m: respelled(m.group(0), names), comment)
+
+
 def turned(line, names, comment):
-    """A line with its names turned; of a comment, what stands between backticks."""
+    """A line of antt or of an edit with its names turned."""
     at = line.find(comment) if line.lstrip().startswith(comment.strip()) or f" {comment}" in line else -1
     if at < 0:
         return respelled(line, names)
-    said = TICKED.sub(lambda m: respelled(m.group(0), names), line[at:])
-    return respelled(line[:at], names) + said
+    return respelled(line[:at], names) + commented(line[at:], names)
+
+
+def turned_source(text, names):
+    """A file of src/ with its names turned. Texts go over lines, so it is read as a whole."""
+    parts = APART.split(text)
+    for at, part in enumerate(parts):
+        if at % 2 == 0:
+            parts[at] = TOKEN.sub(lambda m: names.get(m.group(0), m.group(0)), part)
+        elif part.startswith("//"):
+            parts[at] = commented(part, names)
+    return "".join(parts)
 
 
 def main():
@@ -106,7 +123,10 @@ def main():
         names = {**dashed, **names} if ending == ".edit" else names
         for path in files(ending):
             old = text_of(path)
-            new = "".join(turned(line, names, comment) for line in old.splitlines(keepends=True))
+            if ending == ".rt":
+                new = turned_source(old, names)
+            else:
+                new = "".join(turned(line, names, comment) for line in old.splitlines(keepends=True))
             if new != old:
                 with open(path, "w", encoding="utf-8") as f:
                     f.write(new)
