@@ -8,50 +8,47 @@ ghost use Rattle.rules.specs.Report.{records_rules};
 
 mod states;
 
-use rules::{Setup, State, Verdict};
+use rules::{Refusal, Setup, State};
 use units::Module;
 
 // 6, 7 and 25.
-fn fit_verdict(u: Setup, s: State, lent: usize) -> Verdict
+fn fit_verdict(u: Setup, s: State, lent: usize) -> Result<(), Refusal>
     ensures { result ≡ first_broken (fit_rules u s lent) }
 {
-    let core = s.core;
-    let t = u.table;
-    let m = Module::of_grade(core.grade);
-    if t.fits() {
-        if lent == m.page_bytes() {
-            if states::fits(s) {
-                return Verdict::Taken;
-            }
-            return Verdict::refused(25);
-        }
-        return Verdict::refused(7);
+    let m = Module::of_grade(s.core.grade);
+    if !u.table.fits() {
+        return Err(Refusal::WrongTable);
     }
-    Verdict::refused(6)
+    if lent != m.page_bytes() {
+        return Err(Refusal::WrongPage);
+    }
+    if !states::fits(s) {
+        return Err(Refusal::UnfitState);
+    }
+    Ok(())
 }
 
 // 3, 4, 6, 7 and 25.
 #[tactic(auto, unfolding(rules::specs::OneRecord::state_rules))]
-pub fn state_verdict(u: Setup, s: State, lent: usize) -> Verdict
+pub fn state_verdict(u: Setup, s: State, lent: usize) -> Result<(), Refusal>
     ensures { result ≡ first_broken (state_rules u s lent) }
 {
-    let core = s.core;
-    if rules::period_fits(core.period) {
-        if rules::grade_known(core.grade) {
-            return fit_verdict(u, s, lent);
-        }
-        return Verdict::refused(4);
+    if !rules::period_fits(s.core.period) {
+        return Err(Refusal::WrongPeriod);
     }
-    Verdict::refused(3)
+    if !rules::grade_known(s.core.grade) {
+        return Err(Refusal::WrongGrade);
+    }
+    fit_verdict(u, s, lent)
 }
 
 // What is tried before the first record: whole records, then 3, 4, 6, 7 and 25.
 #[tactic(auto, unfolding(rules::specs::Report::records_rules))]
-pub fn records_verdict(u: Setup, s: State, bytes: usize, lent: usize) -> Verdict
+pub fn records_verdict(u: Setup, s: State, bytes: usize, lent: usize) -> Result<(), Refusal>
     ensures { result ≡ first_broken (records_rules u s bytes lent) }
 {
     if bytes % 16 != 0 {
-        return Verdict::refused(1);
+        return Err(Refusal::WrongLength);
     }
     state_verdict(u, s, lent)
 }

@@ -1,4 +1,5 @@
 -- Rows 14 to 22 as the code asks them: for each command, only what document 01 asks of it. Assumes nothing.
+use Rattle.std.specs.Prelude.{Ok, Err}
 use mathlib.Core.Path.{◌≡◌, refl, sym, ap, ◌∙◌}
 use mathlib.Core.Bool.{Bool, true, false, not, ◌&&◌, ◌||◌, cond, and-true, true≢false}
 use mathlib.Core.List.{List, [], ◌∷◌, ◌++◌}
@@ -24,13 +25,12 @@ use Rattle.layout.specs.declared.Command.TheVariants.{
 use Rattle.layout.specs.Commands.{is, access, precharge_all}
 use Rattle.mode.specs.Word.{legal}
 use Rattle.bursts.specs.Bus.{bursts_finished, bus_clear}
+use Rattle.rules.specs.declared.Refusal.TheVariants.{BankState, BusNotClear, EndlessBurst, LateClosing, ReservedMode, ShortClock, StartUpStep, UnfinishedBurst}
 use Rattle.rules.specs.declared.StartUp.{StartUp}
 use Rattle.rules.specs.declared.Status.{Status}
 use Rattle.rules.specs.declared.Bank.{Bank}
 use Rattle.rules.specs.declared.Core.{Core}
-use Rattle.rules.specs.declared.Verdict.{Verdict}
-use Rattle.rules.specs.declared.Verdict.TheVariants.{Taken, Refused}
-use Rattle.rules.specs.Numbers.{Rule, rule, first_broken, ◌⇒◌}
+use Rattle.rules.specs.Numbers.{Rule, rule, first_broken, ◌⇒◌, Verdict}
 use Rattle.rules.specs.Parts.{word, core_module}
 use Rattle.rules.specs.Closing.{burst_end, ends_by_itself, closes_within}
 use Rattle.rules.specs.StartUp.{begun, two_done, last_load, power_up, allowed}
@@ -50,29 +50,25 @@ use Rattle.asking.proofs.Events.{
 
 -- the first answer, unless it is clean
 abbrev pub then : Verdict → Verdict → Verdict
-then Taken w = w
-then (Refused n i) w = Refused n i
+then (Ok x) v = v
+then (Err w) v = Err w
 
 pub first_join : (l m : List Rule) → first_broken (l ++ m) ≡ then (first_broken l) (first_broken m)
 first_join [] m = refl
-first_join (rule n i true ∷ l) m = first_join l m
-first_join (rule n i false ∷ l) m = refl
+first_join (rule w true ∷ l) m = first_join l m
+first_join (rule w false ∷ l) m = refl
 
-pub then_taken : (v : Verdict) → then v Taken ≡ v
-then_taken Taken = refl
-then_taken (Refused n i) = refl
+pub then_taken : (v : Verdict) → then v (Ok tt) ≡ v
+then_taken (Ok x) = refl
+then_taken (Err w) = refl
 
 joined : (l m k : List Rule) → first_broken (l ++ (m ++ k)) ≡ then (first_broken l) (then (first_broken m) (first_broken k))
 joined l m k = first_join l (m ++ k) ∙ ap (then (first_broken l)) (first_join m k)
 
-two_rows : (a b : Bool) (l : List Rule) → first_broken (rule 14 0 a ∷ rule 15 0 b ∷ l) ≡ cond a (cond b (first_broken l) (Refused 15 0)) (Refused 14 0)
+two_rows : (a b : Bool) (l : List Rule) → first_broken (rule StartUpStep a ∷ rule BankState b ∷ l) ≡ cond a (cond b (first_broken l) (Err BankState)) (Err StartUpStep)
 two_rows true true l = refl
 two_rows true false l = refl
 two_rows false b l = refl
-
-pub implied : (a b : Bool) → (a ⇒ b) ≡ (not a || b)
-implied true b = refl
-implied false b = refl
 
 -- rows 19 to 22 in a state with this core
 abbrev bus_rules_of : Command → SpeedTable → Core → Status → Record → Clock → List Rule
@@ -87,14 +83,14 @@ ladder : (k : Command) (t : SpeedTable) (c : Core) (bs : List Bank) (r : Record)
     (cond (banks_found k r.ba bs)
     (then (lowest (shorts t c.period now (minima k c.period c.startup r bs)))
     (then (first_broken (mode_rules k t (core_module c) c.period r)) (first_broken (bus_rules_of k t c (bank_at bs r.ba).status r n))))
-    (Refused 15 0))
-    (Refused 14 0)
+    (Err BankState))
+    (Err StartUpStep)
 unfolding command_rules place_rules
 ladder k t c bs r n now =
     two_rows (allowed k r now c.startup) (banks_found k r.ba bs)
     (minimum_rules t c.period now (minima k c.period c.startup r bs)
     ++ (mode_rules k t (core_module c) c.period r ++ bus_rules_of k t c (bank_at bs r.ba).status r n))
-    ∙ ap (λ (v : Verdict). cond (allowed k r now c.startup) (cond (banks_found k r.ba bs) v (Refused 15 0)) (Refused 14 0))
+    ∙ ap (λ (v : Verdict). cond (allowed k r now c.startup) (cond (banks_found k r.ba bs) v (Err BankState)) (Err StartUpStep))
     (joined (minimum_rules t c.period now (minima k c.period c.startup r bs)) (mode_rules k t (core_module c) c.period r)
     (bus_rules_of k t c (bank_at bs r.ba).status r n)
     ∙ ap
@@ -104,8 +100,8 @@ ladder k t c bs r n now =
 
 -- rows 19 to 22 as tests
 four_rows : (a b x p q : Bool)
-    → first_broken (rule 19 0 a ∷ rule 20 0 b ∷ rule 21 0 (x ⇒ p) ∷ rule 22 0 (x ⇒ q) ∷ [])
-    ≡ cond a (cond b (cond x (cond p (cond q Taken (Refused 22 0)) (Refused 21 0)) Taken) (Refused 20 0)) (Refused 19 0)
+    → first_broken (rule UnfinishedBurst a ∷ rule BusNotClear b ∷ rule EndlessBurst (x ⇒ p) ∷ rule LateClosing (x ⇒ q) ∷ [])
+    ≡ cond a (cond b (cond x (cond p (cond q (Ok tt) (Err LateClosing)) (Err EndlessBurst)) (Ok tt)) (Err BusNotClear)) (Err UnfinishedBurst)
 four_rows true true true true true = refl
 four_rows true true true true false = refl
 four_rows true true true false q = refl
@@ -117,8 +113,8 @@ four_rows false b x p q = refl
 pub bus_ladder : (k : Command) → (access k || is k Terminate) ≡ true → (t : SpeedTable) (c : Core) (status : Status) (r : Record) (n : Clock)
     → first_broken (bus_rules_of k t c status r n)
     ≡ cond (bursts_finished c.bus.write c.bus.reads n)
-    (cond (is k Write ⇒ bus_clear c.last c.bus.masks c.bus.reads n) (cond (asks_auto k r) (auto_answer k t c status n) Taken) (Refused 20 0))
-    (Refused 19 0)
+    (cond (is k Write ⇒ bus_clear c.last c.bus.masks c.bus.reads n) (cond (asks_auto k r) (auto_answer k t c status n) (Ok tt)) (Err BusNotClear))
+    (Err UnfinishedBurst)
 unfolding bus_rules auto_answer
 bus_ladder k h t c status r n =
     rw h
@@ -127,11 +123,11 @@ bus_ladder k h t c status r n =
 
 pub mode_ladder : (t : SpeedTable) (m : Module) (period : Ps) (r : Record)
     → first_broken (mode_rules LoadMode t m period r)
-    ≡ cond (legal m r.addr && eqb r.ba 0) (cond (by (tCK t r.addr) period) Taken (Refused 18 0)) (Refused 17 0)
+    ≡ cond (legal m r.addr && eqb r.ba 0) (cond (by (tCK t r.addr) period) (Ok tt) (Err ShortClock)) (Err ReservedMode)
 unfolding mode_rules
 mode_ladder t m period r = go (legal m r.addr && eqb r.ba 0) (by (tCK t r.addr) period)
   where
-    go : (a b : Bool) → first_broken (rule 17 0 a ∷ rule 18 0 b ∷ []) ≡ cond a (cond b Taken (Refused 18 0)) (Refused 17 0)
+    go : (a b : Bool) → first_broken (rule ReservedMode a ∷ rule ShortClock b ∷ []) ≡ cond a (cond b (Ok tt) (Err ShortClock)) (Err ReservedMode)
     go true true = refl
     go true false = refl
     go false b = refl
@@ -145,7 +141,7 @@ started u = two_done u.refreshes && occurred (last_load u.register)
 module _ (t : SpeedTable) (c : Core) (bs : List Bank) (r : Record) (n : Clock) (now : Ps) where
   pub unbegun : (k : Command) → begun c.startup ≡ false
       → first_broken (command_rules k t (core_module c) c.period (found c bs n) r n now)
-      ≡ cond (precharge_all k r && by power_up now) Taken (Refused 14 0)
+      ≡ cond (precharge_all k r && by power_up now) (Ok tt) (Err StartUpStep)
   unfolding allowed banks_found minima mode_rules bus_rules lowest shorts
   unbegun k h = ladder k t c bs r n now ∙ go k
     where
@@ -154,9 +150,9 @@ module _ (t : SpeedTable) (c : Core) (bs : List Bank) (r : Record) (n : Clock) (
           (cond (banks_found k r.ba bs)
           (then (lowest (shorts t c.period now (minima k c.period c.startup r bs)))
           (then (first_broken (mode_rules k t (core_module c) c.period r)) (first_broken (bus_rules_of k t c (bank_at bs r.ba).status r n))))
-          (Refused 15 0))
-          (Refused 14 0)
-          ≡ cond (precharge_all k r && by power_up now) Taken (Refused 14 0)
+          (Err BankState))
+          (Err StartUpStep)
+          ≡ cond (precharge_all k r && by power_up now) (Ok tt) (Err StartUpStep)
       go Inhibit = rw h
       go Nop = rw h
       go Active = rw h
@@ -174,7 +170,7 @@ module _ (t : SpeedTable) (c : Core) (bs : List Bank) (r : Record) (n : Clock) (
   active_answer =
       cond (is_closed (bank_at bs r.ba).status)
       (lowest (either (shorts t c.period now (of_any c.period c.startup)) (shorts t c.period now (of_active c.period r.ba bs))))
-      (Refused 15 0)
+      (Err BankState)
 
   -- 15 to 22 of WRITE, READ and BURST TERMINATE
   abbrev pub burst_answer : Command → Verdict
@@ -184,7 +180,7 @@ module _ (t : SpeedTable) (c : Core) (bs : List Bank) (r : Record) (n : Clock) (
       (lowest
       (either (shorts t c.period now (of_any c.period c.startup)) (shorts t c.period now (only (access k) (of_access c.period (bank_at bs r.ba))))))
       (first_broken (bus_rules_of k t c (bank_at bs r.ba).status r n)))
-      (Refused 15 0)
+      (Err BankState)
 
   module _ (b : begun c.startup ≡ true) where
     minima_begun : (k : Command) → minima k c.period c.startup r bs ≡ events k c.period c.startup r bs
@@ -194,7 +190,7 @@ module _ (t : SpeedTable) (c : Core) (bs : List Bank) (r : Record) (n : Clock) (
     begun_active : first_broken (command_rules Active t (core_module c) c.period (found c bs n) r n now)
         ≡ cond (started c.startup)
         active_answer
-        (Refused 14 0)
+        (Err StartUpStep)
     unfolding allowed banks_found mode_rules bus_rules
     begun_active = rw (ladder Active t c bs r n now, minima_begun Active, events_active, then_taken, b, and-true, and-true)
 
@@ -202,7 +198,7 @@ module _ (t : SpeedTable) (c : Core) (bs : List Bank) (r : Record) (n : Clock) (
         → first_broken (command_rules k t (core_module c) c.period (found c bs n) r n now)
         ≡ cond (started c.startup)
         (burst_answer k)
-        (Refused 14 0)
+        (Err StartUpStep)
     unfolding allowed banks_found mode_rules
     begun_burst Inhibit h = absurd (true≢false (sym h))
     begun_burst Nop h = absurd (true≢false (sym h))
@@ -222,7 +218,7 @@ module _ (t : SpeedTable) (c : Core) (bs : List Bank) (r : Record) (n : Clock) (
     pub refresh_ladder : first_broken (command_rules Refresh t (core_module c) c.period (found c bs n) r n now)
         ≡ cond (every closed bs)
         (lowest (either (shorts t c.period now (of_any c.period c.startup)) (shorts t c.period now (of_idle bs))))
-        (Refused 15 0)
+        (Err BankState)
     unfolding allowed banks_found mode_rules bus_rules
     refresh_ladder = rw (ladder Refresh t c bs r n now, minima_begun Refresh, events_refresh, then_taken, b)
 
@@ -231,8 +227,8 @@ module _ (t : SpeedTable) (c : Core) (bs : List Bank) (r : Record) (n : Clock) (
         (cond (every closed bs)
         (then (lowest (either (shorts t c.period now (of_any c.period c.startup)) (shorts t c.period now (of_idle bs))))
         (first_broken (mode_rules LoadMode t (core_module c) c.period r)))
-        (Refused 15 0))
-        (Refused 14 0)
+        (Err BankState))
+        (Err StartUpStep)
     unfolding allowed banks_found bus_rules
     load_ladder = rw (ladder LoadMode t c bs r n now, minima_begun LoadMode, events_load, then_taken, b, and-true)
 
@@ -241,14 +237,14 @@ module _ (t : SpeedTable) (c : Core) (bs : List Bank) (r : Record) (n : Clock) (
   pub active_ladder : first_broken (command_rules Active t (core_module c) c.period (found c bs n) r n now)
       ≡ cond (begun c.startup && started c.startup)
       active_answer
-      (Refused 14 0)
+      (Err StartUpStep)
   active_ladder = go (begun c.startup) refl
     where
       go : (x : Bool) → begun c.startup ≡ x
           → first_broken (command_rules Active t (core_module c) c.period (found c bs n) r n now)
           ≡ cond (begun c.startup && started c.startup)
           active_answer
-          (Refused 14 0)
+          (Err StartUpStep)
       go true b = rw b (begun_active b)
       go false b = rw (unbegun Active b, b)
 
@@ -258,7 +254,7 @@ module _ (t : SpeedTable) (c : Core) (bs : List Bank) (r : Record) (n : Clock) (
       → first_broken (command_rules k t (core_module c) c.period (found c bs n) r n now)
       ≡ cond (begun c.startup && started c.startup)
       (burst_answer k)
-      (Refused 14 0)
+      (Err StartUpStep)
   burst_ladder k h = go (begun c.startup) refl
     where
       no_precharge : (k : Command) → (access k || is k Terminate) ≡ true → precharge_all k r ≡ false
@@ -276,6 +272,6 @@ module _ (t : SpeedTable) (c : Core) (bs : List Bank) (r : Record) (n : Clock) (
           → first_broken (command_rules k t (core_module c) c.period (found c bs n) r n now)
           ≡ cond (begun c.startup && started c.startup)
           (burst_answer k)
-          (Refused 14 0)
+          (Err StartUpStep)
       go true b = rw b (begun_burst b k h)
       go false b = rw (unbegun k b, no_precharge k h, b)

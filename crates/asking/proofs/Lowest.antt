@@ -1,4 +1,5 @@
 -- Number 16's rows as eight tests: laws by which the code reads them off the events. Assumes nothing.
+use Rattle.std.specs.Prelude.{Option, None, Some, Err}
 use Prim.Native.Nat.{ℕ}
 use mathlib.Core.Path.{◌≡◌, refl, ap, sym, ◌∙◌}
 use mathlib.Core.Bool.{Bool, true, false, not, ◌&&◌, ◌||◌, cond, and_assoc, and-false, or-false}
@@ -7,15 +8,13 @@ use lib.Dec.{ltb, eqb}
 use lib.ListN.{length}
 use Rattle.units.specs.declared.Clock.{Clock}
 use Rattle.units.specs.declared.Ps.{Ps}
-use Rattle.units.specs.declared.Event.{Event}
-use Rattle.units.specs.declared.Event.TheVariants.{Never, On}
 use Rattle.units.specs.Time.{at, by, plus, clocks_of}
 use Rattle.speed.specs.declared.SpeedTable.{SpeedTable}
 use Rattle.asking.specs.declared.Shorts.{Shorts}
+use Rattle.rules.specs.declared.Refusal.{Refusal}
 use Rattle.rules.specs.declared.Status.{Status}
 use Rattle.rules.specs.declared.Status.TheVariants.{NotStarted, Open, Closed}
 use Rattle.rules.specs.declared.Bank.{Bank}
-use Rattle.rules.specs.declared.Verdict.TheVariants.{Refused}
 use Rattle.rules.specs.Numbers.{Rule, rule, first_broken, tRCD, tRAS, tRC, tRP, tRRD, tRFC, tWR, tMRD}
 use Rattle.rules.specs.Banks.{bank_at, opened, closings, clock_after, last_store}
 use Rattle.rules.specs.Minima.{Since, since, from_times, from, only, each, met}
@@ -36,9 +35,9 @@ use Rattle.rules.proofs.Four.{four}
 
 -- ── The rows and the lowest ──
 
-pub row : (n i : ℕ) (b : Bool) (l : List Rule) → first_broken (rule n i b ∷ l) ≡ cond (not b) (Refused n i) (first_broken l)
-row n i true l = refl
-row n i false l = refl
+pub row : (w : Refusal) (b : Bool) (l : List Rule) → first_broken (rule w b ∷ l) ≡ cond (not b) (Err w) (first_broken l)
+row w true l = refl
+row w false l = refl
 
 pub minimum_lowest : (t : SpeedTable) (period now : Ps) (l : List Since) → first_broken (minimum_rules t period now l) ≡ lowest (shorts t period now l)
 unfolding minimum_rules lowest shorts
@@ -112,11 +111,11 @@ pub shorts_zero : (t : SpeedTable) (period now : Ps) (k : ℕ) → shorts t peri
 unfolding shorts
 shorts_zero t period now k = simp and-false
 
-pub shorts_since : (t : SpeedTable) (period now : Ps) (k : ℕ) (e : Event)
+pub shorts_since : (t : SpeedTable) (period now : Ps) (k : ℕ) (e : Option Clock)
     → shorts t period now (from k period (clocks_of e)) ≡ one_short t period k (λ m. short_since period e m now)
 unfolding short_since short_on
-shorts_since t period now k Never = shorts_zero t period now k
-shorts_since t period now k (On x) = shorts_one t period now k (at period x)
+shorts_since t period now k None = shorts_zero t period now k
+shorts_since t period now k (Some x) = shorts_one t period now k (at period x)
 
 pub shorts_opened : (t : SpeedTable) (period now : Ps) (k : ℕ) (x : Status)
     → shorts t period now (from k period (opened x)) ≡ one_short t period k (λ m. short_opened period x m now)
@@ -125,18 +124,18 @@ shorts_opened t period now k NotStarted = shorts_zero t period now k
 shorts_opened t period now k (Open row n) = shorts_one t period now k (at period n)
 shorts_opened t period now k (Closed c) = shorts_zero t period now k
 
-shorts_after : (t : SpeedTable) (period now : Ps) (k : ℕ) (n : Clock) (e : Event)
+shorts_after : (t : SpeedTable) (period now : Ps) (k : ℕ) (n : Clock) (e : Option Clock)
     → shorts t period now (from k period (clock_after n e)) ≡ one_short t period k (λ m. short_after period n e m now)
 unfolding short_after short_on
-shorts_after t period now k n Never = shorts_zero t period now k
-shorts_after t period now k n (On x) = go (ltb n.0 x.0)
+shorts_after t period now k n None = shorts_zero t period now k
+shorts_after t period now k n (Some x) = go (ltb n.0 x.0)
   where
     go : (y : Bool)
         → shorts t period now (from k period (cond y (x ∷ []) [])) ≡ one_short t period k (λ m. y && not (by (plus (at period x) m) now))
     go true = shorts_one t period now k (at period x)
     go false = shorts_zero t period now k
 
-pub shorts_stored : (t : SpeedTable) (period now : Ps) (k : ℕ) (x : Status) (e : Event)
+pub shorts_stored : (t : SpeedTable) (period now : Ps) (k : ℕ) (x : Status) (e : Option Clock)
     → shorts t period now (from k period (last_store x e)) ≡ one_short t period k (λ m. short_stored period x e m now)
 unfolding short_stored
 shorts_stored t period now k NotStarted e = shorts_zero t period now k

@@ -1,18 +1,16 @@
 -- Number 16 as eight tests: which minima are not met, and the lowest of them. Definitions only.
-use Rattle.std.specs.Prelude.{ℕ, ◌^◌, ◌≤◌, Bool, false, not, ◌&&◌, ◌||◌, cond, List, ltb, eqb}
+use Rattle.std.specs.Prelude.{ℕ, ◌^◌, ◌≤◌, Bool, false, not, ◌&&◌, ◌||◌, cond, List, ltb, eqb, Option, None, Some, Ok, Err}
 use Rattle.units.specs.declared.Clock.{Clock}
 use Rattle.units.specs.declared.Ps.{Ps}
-use Rattle.units.specs.declared.Event.{Event}
-use Rattle.units.specs.declared.Event.TheVariants.{Never, On}
 use Rattle.units.specs.Time.{at, by, plus}
 use Rattle.speed.specs.declared.SpeedTable.{SpeedTable}
 use Rattle.asking.specs.declared.Shorts.{Shorts}
+use Rattle.rules.specs.declared.Refusal.TheVariants.{TooSoon}
+use Rattle.rules.specs.declared.Interval.TheVariants.{Mrd, Ras, Rc, Rcd, Rfc, Rp, Rrd, Wr}
 use Rattle.rules.specs.declared.Status.{Status}
 use Rattle.rules.specs.declared.Status.TheVariants.{NotStarted, Open, Closed}
 use Rattle.rules.specs.declared.Bank.{Bank}
-use Rattle.rules.specs.declared.Verdict.{Verdict}
-use Rattle.rules.specs.declared.Verdict.TheVariants.{Taken, Refused}
-use Rattle.rules.specs.Numbers.{tRCD, tRAS, tRC, tRP, tRRD, tRFC, tWR, tMRD}
+use Rattle.rules.specs.Numbers.{tRCD, tRAS, tRC, tRP, tRRD, tRFC, tWR, tMRD, Verdict}
 use Rattle.rules.specs.Banks.{bank_at}
 use Rattle.rules.specs.Minima.{Since, met}
 
@@ -56,32 +54,32 @@ either a b =
 -- "the lowest such is named"
 unfoldable pub lowest : Shorts → Verdict
 lowest s =
-    cond s.rcd (Refused 16 tRCD)
-    (cond s.ras (Refused 16 tRAS)
-    (cond s.rc (Refused 16 tRC)
-    (cond s.rp (Refused 16 tRP)
-    (cond s.rrd (Refused 16 tRRD)
-    (cond s.rfc (Refused 16 tRFC) (cond s.wr (Refused 16 tWR) (cond s.mrd (Refused 16 tMRD) Taken)))))))
+    cond s.rcd (Err (TooSoon Rcd))
+    (cond s.ras (Err (TooSoon Ras))
+    (cond s.rc (Err (TooSoon Rc))
+    (cond s.rp (Err (TooSoon Rp))
+    (cond s.rrd (Err (TooSoon Rrd))
+    (cond s.rfc (Err (TooSoon Rfc)) (cond s.wr (Err (TooSoon Wr)) (cond s.mrd (Err (TooSoon Mrd)) (Ok tt))))))))
 
 -- a minimum since a clock, an event, the ACTIVE of an open bank, its last store, a closing is not met
 unfoldable pub short_on : Ps → Clock → Ps → Ps → Bool
 short_on period n m now = not (by (plus (at period n) m) now)
 
-unfoldable pub short_since : Ps → Event → Ps → Ps → Bool
-short_since period Never m now = false
-short_since period (On n) m now = short_on period n m now
+unfoldable pub short_since : Ps → Option Clock → Ps → Ps → Bool
+short_since period None m now = false
+short_since period (Some n) m now = short_on period n m now
 
 -- since an event, where that is after clock n
-unfoldable pub short_after : Ps → Clock → Event → Ps → Ps → Bool
-short_after period n Never m now = false
-short_after period n (On x) m now = ltb n.0 x.0 && short_on period x m now
+unfoldable pub short_after : Ps → Clock → Option Clock → Ps → Ps → Bool
+short_after period n None m now = false
+short_after period n (Some x) m now = ltb n.0 x.0 && short_on period x m now
 
 unfoldable pub short_opened : Ps → Status → Ps → Ps → Bool
 short_opened period NotStarted m now = false
 short_opened period (Open row n) m now = short_on period n m now
 short_opened period (Closed t) m now = false
 
-unfoldable pub short_stored : Ps → Status → Event → Ps → Ps → Bool
+unfoldable pub short_stored : Ps → Status → Option Clock → Ps → Ps → Bool
 short_stored period NotStarted e m now = false
 short_stored period (Open row n) e m now = short_after period n e m now
 short_stored period (Closed t) e m now = false

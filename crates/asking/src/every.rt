@@ -9,11 +9,11 @@ ghost use Rattle.asking.specs.Moment.{moment_rules};
 
 use crate::maxima;
 use layout::Record;
-use rules::{CLOCK_MAX, Refreshes, Status, Verdict, steps};
+use rules::{CLOCK_MAX, Refreshes, Refusal, Status};
 use speed::SpeedTable;
 use units::{Clock, Ps, time};
 
-// 10, 23, 11 and 12, which look at no bank.
+// 10, 23, 11 and 12, which look at no bank. Of the table it asks nothing, where a Timing would.
 #[tactic(auto, unfolding(crate::specs::Moment::moment_rules))]
 pub fn ask_moment(
     t: SpeedTable,
@@ -22,24 +22,23 @@ pub fn ask_moment(
     r: Record,
     n: Clock,
     moment: Ps,
-) -> Verdict
+) -> Result<(), Refusal>
     requires { FitPeriod period × FitEvent (last_refresh refreshes) }
     ensures { result ≡ first_broken (moment_rules t period refreshes r n moment) }
 {
     if r.zeros != 0 {
-        return Verdict::refused(10);
+        return Err(Refusal::RecordZeros);
     }
     if CLOCK_MAX < n.0 {
-        return Verdict::refused(23);
+        return Err(Refusal::HighClock);
     }
     if r.cke != 1 {
-        return Verdict::refused(11);
+        return Err(Refusal::CkeLow);
     }
-    let refresh = steps::counted_refresh(refreshes);
-    if maxima::within(period, t.interval, moment, refresh) {
-        return Verdict::Taken;
+    if !maxima::within(period, t.interval, moment, refreshes.counted()) {
+        return Err(Refusal::LateRefresh);
     }
-    Verdict::refused(12)
+    Ok(())
 }
 
 // A bank's row is not "open longer than tRAS max".
@@ -48,8 +47,7 @@ pub fn open_within(period: Ps, max: Ps, moment: Ps, x: Status) -> bool
     ensures { result ≡ open_within period max moment x }
 {
     match x {
-        Status::NotStarted => true,
-        Status::Open { row: _, active } => time::at(period, active).within(max, moment),
-        Status::Closed { closing: _ } => true,
+        Status::Open { active, .. } => time::at(period, active).within(max, moment),
+        Status::NotStarted | Status::Closed { .. } => true,
     }
 }

@@ -10,105 +10,79 @@ ghost use Rattle.asking.specs.Shorts.{FitSpan, shorts, no_shorts, either, lowest
 
 use crate::{Shorts, since};
 use layout::Record;
-use rules::{Bank, StartUp, Verdict, steps};
+use rules::timing::Timing;
+use rules::{Bank, Interval, Refusal, StartUp};
 use speed::SpeedTable;
 use units::{Ps, time};
 
-// All minima are met.
-pub fn no_shorts() -> Shorts
-    ensures { result ≡ no_shorts }
-{
-    Shorts {
-        rcd: false,
-        ras: false,
-        rc: false,
-        rp: false,
-        rrd: false,
-        rfc: false,
-        wr: false,
-        mrd: false,
+impl Shorts {
+    // All minima are met.
+    pub(crate) fn none() -> Shorts
+        ensures { result ≡ no_shorts }
+    {
+        Shorts {
+            rcd: false,
+            ras: false,
+            rc: false,
+            rp: false,
+            rrd: false,
+            rfc: false,
+            wr: false,
+            mrd: false,
+        }
     }
-}
 
-// What is short by either.
-#[tactic(auto, unfolding(crate::specs::Shorts::either))]
-pub fn either(a: Shorts, b: Shorts) -> Shorts
-    ensures { result ≡ either a b }
-{
-    Shorts {
-        rcd: a.rcd | b.rcd,
-        ras: a.ras | b.ras,
-        rc: a.rc | b.rc,
-        rp: a.rp | b.rp,
-        rrd: a.rrd | b.rrd,
-        rfc: a.rfc | b.rfc,
-        wr: a.wr | b.wr,
-        mrd: a.mrd | b.mrd,
+    // What is short by either.
+    #[tactic(auto, unfolding(crate::specs::Shorts::either))]
+    pub(crate) fn or(self, other: Shorts) -> Shorts
+        ensures { result ≡ either self other }
+    {
+        Shorts {
+            rcd: self.rcd | other.rcd,
+            ras: self.ras | other.ras,
+            rc: self.rc | other.rc,
+            rp: self.rp | other.rp,
+            rrd: self.rrd | other.rrd,
+            rfc: self.rfc | other.rfc,
+            wr: self.wr | other.wr,
+            mrd: self.mrd | other.mrd,
+        }
     }
-}
 
-fn short(interval: u8) -> Verdict
-    ensures { result ≡ Verdict.Refused 16 interval }
-{
-    Verdict::Refused {
-        number: 16,
-        interval,
+    // "The lowest such is named."
+    #[tactic(auto, unfolding(crate::specs::Shorts::lowest))]
+    pub(crate) fn lowest(self) -> Result<(), Refusal>
+        ensures { result ≡ lowest self }
+    {
+        let interval = match self {
+            Shorts { rcd: true, .. } => Interval::Rcd,
+            Shorts { ras: true, .. } => Interval::Ras,
+            Shorts { rc: true, .. } => Interval::Rc,
+            Shorts { rp: true, .. } => Interval::Rp,
+            Shorts { rrd: true, .. } => Interval::Rrd,
+            Shorts { rfc: true, .. } => Interval::Rfc,
+            Shorts { wr: true, .. } => Interval::Wr,
+            Shorts { mrd: true, .. } => Interval::Mrd,
+            _ => return Ok(()),
+        };
+        Err(Refusal::TooSoon(interval))
     }
-}
-
-// "The lowest such is named."
-#[tactic(auto, unfolding(crate::specs::Shorts::lowest))]
-pub fn lowest(s: Shorts) -> Verdict
-    ensures { result ≡ lowest s }
-{
-    if s.rcd {
-        return short(1);
-    }
-    if s.ras {
-        return short(2);
-    }
-    if s.rc {
-        return short(3);
-    }
-    if s.rp {
-        return short(4);
-    }
-    if s.rrd {
-        return short(5);
-    }
-    if s.rfc {
-        return short(6);
-    }
-    if s.wr {
-        return short(7);
-    }
-    if s.mrd {
-        return short(8);
-    }
-    Verdict::Taken
 }
 
 // "Any executable command: tRFC since the last refresh, tMRD since the last mode load, tRP since the last PRECHARGE ALL."
 #[tactic(auto, unfolding(rules::specs::Minima::of_any, crate::specs::Shorts::shorts))]
-pub fn any_shorts(t: SpeedTable, period: Ps, u: StartUp, moment: Ps) -> Shorts
-    requires { FitPeriod period × FitStartUp u × Bounds t }
-    ensures { result ≡ shorts t period moment (of_any period u) }
+pub fn any_shorts(timing: Timing, u: StartUp, moment: Ps) -> Shorts
+    requires { FitStartUp u }
+    ensures { result ≡ shorts timing.table timing.period moment (of_any timing.period u) }
 {
-    let all = u.allclosed;
-    let refreshes = u.refreshes;
-    let register = u.register;
-    let refresh = steps::last_refresh(refreshes);
-    let load = steps::last_load(register);
-    let mrd = time::at(period, t.tmrd);
+    let Timing { table, period } = timing;
+    let refresh = u.refreshes.last();
+    let mrd = time::at(period, table.tmrd);
     Shorts {
-        rcd: false,
-        ras: false,
-        rc: false,
-        rp: since::short_since(period, all, t.trp, moment),
-        rrd: false,
-        rfc: since::short_since(period, refresh, t.trfc, moment),
-        wr: false,
-        mrd: since::short_since(period, load, mrd, moment),
+        rp: since::short_since(period, u.allclosed, table.trp, moment),
+        rfc: since::short_since(period, refresh, table.trfc, moment),
+        mrd: since::short_since(period, u.last_load(), mrd, moment),
+        ..Shorts::none()
     }
 }
 
@@ -117,11 +91,7 @@ fn short_other(period: Ps, ba: u8, i: u8, b: Bank, min: Ps, moment: Ps) -> bool
     requires { FitPeriod period × FitBank b × FitSpan min }
     ensures { result ≡ short_other period ba i b min moment }
 {
-    if i == ba {
-        return false;
-    }
-    let active = b.active;
-    since::short_since(period, active, min, moment)
+    i != ba && since::short_since(period, b.active, min, moment)
 }
 
 #[tactic(auto, unfolding(crate::specs::Shorts::short_others))]
@@ -129,151 +99,103 @@ pub fn short_others(period: Ps, ba: u8, banks: [Bank; 4], min: Ps, moment: Ps) -
     requires { FitPeriod period × BanksFit banks × FitSpan min }
     ensures { result ≡ short_others period ba banks min moment }
 {
-    if short_other(period, ba, 0, banks[0], min, moment) {
-        return true;
-    }
-    if short_other(period, ba, 1, banks[1], min, moment) {
-        return true;
-    }
-    if short_other(period, ba, 2, banks[2], min, moment) {
-        return true;
-    }
-    short_other(period, ba, 3, banks[3], min, moment)
+    let [a, b, c, d] = banks;
+    short_other(period, ba, 0, a, min, moment)
+        || short_other(period, ba, 1, b, min, moment)
+        || short_other(period, ba, 2, c, min, moment)
+        || short_other(period, ba, 3, d, min, moment)
 }
 
 // "ACTIVE: tRP since its closing; tRC since its last ACTIVE; tRRD since the last ACTIVE of another bank."
 #[tactic(auto, unfolding(rules::specs::Minima::of_active, crate::specs::Shorts::shorts))]
-pub fn active_shorts(
-    t: SpeedTable,
-    period: Ps,
-    ba: u8,
-    own: Bank,
-    banks: [Bank; 4],
-    moment: Ps,
-) -> Shorts
-    requires { FitPeriod period × BanksFit banks × (own ≡ bank_at banks ba) × Bounds t }
-    ensures { result ≡ shorts t period moment (of_active period ba banks) }
+pub fn active_shorts(timing: Timing, ba: u8, own: Bank, banks: [Bank; 4], moment: Ps) -> Shorts
+    requires { BanksFit banks × (own ≡ bank_at banks ba) }
+    ensures { result ≡ shorts timing.table timing.period moment (of_active timing.period ba banks) }
 {
-    let status = own.status;
-    let active = own.active;
+    let Timing { table, period } = timing;
     Shorts {
-        rcd: false,
-        ras: false,
-        rc: since::short_since(period, active, t.trc, moment),
-        rp: since::short_closed(status, t.trp, moment),
-        rrd: short_others(period, ba, banks, t.trrd, moment),
-        rfc: false,
-        wr: false,
-        mrd: false,
+        rc: since::short_since(period, own.active, table.trc, moment),
+        rp: since::short_closed(own.status, table.trp, moment),
+        rrd: short_others(period, ba, banks, table.trrd, moment),
+        ..Shorts::none()
     }
 }
 
 // "READ, WRITE: tRCD since its ACTIVE", where the command is one of these.
 #[tactic(auto, unfolding(rules::specs::Minima::of_access, crate::specs::Shorts::shorts))]
-pub fn access_shorts(access: bool, t: SpeedTable, period: Ps, b: Bank, moment: Ps) -> Shorts
-    requires { FitPeriod period × FitBank b × Bounds t }
-    ensures { result ≡ shorts t period moment (only access (of_access period b)) }
+pub fn access_shorts(access: bool, timing: Timing, b: Bank, moment: Ps) -> Shorts
+    requires { FitBank b }
+    ensures { result ≡ shorts timing.table timing.period moment (only access (of_access timing.period b)) }
 {
-    let status = b.status;
     Shorts {
-        rcd: access & since::short_opened(period, status, t.trcd, moment),
-        ras: false,
-        rc: false,
-        rp: false,
-        rrd: false,
-        rfc: false,
-        wr: false,
-        mrd: false,
+        rcd: access & since::short_opened(timing.period, b.status, timing.table.trcd, moment),
+        ..Shorts::none()
     }
 }
 
 // "An open bank needs tRAS min, and tWR since the last clock on which a byte was stored in it"; a closed one tRP.
 #[tactic(auto, unfolding(rules::specs::Minima::of_precharged, crate::specs::Shorts::shorts))]
-pub fn precharged_shorts(t: SpeedTable, period: Ps, b: Bank, moment: Ps) -> Shorts
-    requires { FitPeriod period × FitBank b × Bounds t }
-    ensures { result ≡ shorts t period moment (of_precharged period b) }
+pub fn precharged_shorts(timing: Timing, b: Bank, moment: Ps) -> Shorts
+    requires { FitBank b }
+    ensures { result ≡ shorts timing.table timing.period moment (of_precharged timing.period b) }
 {
-    let status = b.status;
-    let stored = b.stored;
+    let Timing { table, period } = timing;
     Shorts {
-        rcd: false,
-        ras: since::short_opened(period, status, t.trasmin, moment),
-        rc: false,
-        rp: since::short_closed(status, t.trp, moment),
-        rrd: false,
-        rfc: false,
-        wr: since::short_stored(period, status, stored, t.twr, moment),
-        mrd: false,
+        ras: since::short_opened(period, b.status, table.trasmin, moment),
+        rp: since::short_closed(b.status, table.trp, moment),
+        wr: since::short_stored(period, b.status, b.stored, table.twr, moment),
+        ..Shorts::none()
     }
 }
 
 // Bank i, where the PRECHARGE is for it.
 #[tactic(auto, unfolding(crate::specs::Shorts::shorts))]
-pub fn covered_shorts(t: SpeedTable, period: Ps, r: Record, i: u8, b: Bank, moment: Ps) -> Shorts
-    requires { FitPeriod period × FitBank b × Bounds t }
-    ensures { result ≡ shorts t period moment (of_covered period r i b) }
+pub fn covered_shorts(timing: Timing, r: Record, i: u8, b: Bank, moment: Ps) -> Shorts
+    requires { FitBank b }
+    ensures { result ≡ shorts timing.table timing.period moment (of_covered timing.period r i b) }
 {
     if layout::covers(r.addr, r.ba, i) {
-        precharged_shorts(t, period, b, moment)
+        precharged_shorts(timing, b, moment)
     } else {
-        no_shorts()
+        Shorts::none()
     }
 }
 
 // "PRECHARGE, one bank or (A10 HIGH) each of the four."
 #[tactic(auto, unfolding(rules::specs::Minima::of_precharge, crate::specs::Shorts::shorts))]
-pub fn precharge_shorts(
-    t: SpeedTable,
-    period: Ps,
-    r: Record,
-    banks: [Bank; 4],
-    moment: Ps,
-) -> Shorts
-    requires { FitPeriod period × BanksFit banks × Bounds t }
-    ensures { result ≡ shorts t period moment (of_precharge period r banks) }
+pub fn precharge_shorts(timing: Timing, r: Record, banks: [Bank; 4], moment: Ps) -> Shorts
+    requires { BanksFit banks }
+    ensures { result ≡ shorts timing.table timing.period moment (of_precharge timing.period r banks) }
 {
-    let a = covered_shorts(t, period, r, 0, banks[0], moment);
-    let b = covered_shorts(t, period, r, 1, banks[1], moment);
-    let c = covered_shorts(t, period, r, 2, banks[2], moment);
-    let d = covered_shorts(t, period, r, 3, banks[3], moment);
-    either(a, either(b, either(c, d)))
+    let [a, b, c, d] = banks;
+    let first = covered_shorts(timing, r, 0, a, moment);
+    let second = covered_shorts(timing, r, 1, b, moment);
+    let third = covered_shorts(timing, r, 2, c, moment);
+    let fourth = covered_shorts(timing, r, 3, d, moment);
+    first.or(second.or(third.or(fourth)))
 }
 
-// tRP since a bank's closing.
-fn short_closing(b: Bank, min: Ps, moment: Ps) -> bool
-    requires { FitBank b × FitSpan min }
-    ensures { result ≡ short_closed b.status min moment }
-{
-    let status = b.status;
-    since::short_closed(status, min, moment)
-}
-
+// tRP since some bank's closing.
 #[tactic(auto, unfolding(crate::specs::Shorts::short_closings))]
 pub fn short_closings(banks: [Bank; 4], min: Ps, moment: Ps) -> bool
     requires { BanksFit banks × FitSpan min }
     ensures { result ≡ short_closings banks min moment }
 {
-    let a = short_closing(banks[0], min, moment);
-    let b = short_closing(banks[1], min, moment);
-    let c = short_closing(banks[2], min, moment);
-    let d = short_closing(banks[3], min, moment);
-    a | (b | (c | d))
+    let [a, b, c, d] = banks;
+    since::short_closed(a.status, min, moment)
+        || since::short_closed(b.status, min, moment)
+        || since::short_closed(c.status, min, moment)
+        || since::short_closed(d.status, min, moment)
 }
 
-// "AUTO REFRESH, LOAD MODE: .. tRP since each closing."
+// "AUTO REFRESH, LOAD MODE: .. tRP since each closing." Of the period it asks nothing, where a Timing would.
 #[tactic(auto, unfolding(rules::specs::Minima::of_idle, crate::specs::Shorts::shorts))]
 pub fn idle_shorts(t: SpeedTable, period: Ps, banks: [Bank; 4], moment: Ps) -> Shorts
     requires { BanksFit banks × Bounds t }
     ensures { result ≡ shorts t period moment (of_idle banks) }
 {
     Shorts {
-        rcd: false,
-        ras: false,
-        rc: false,
         rp: short_closings(banks, t.trp, moment),
-        rrd: false,
-        rfc: false,
-        wr: false,
-        mrd: false,
+        ..Shorts::none()
     }
 }

@@ -5,7 +5,7 @@ ghost use Rattle.rules.specs.Admitted.{FitEvent, FitStatus};
 ghost use Rattle.asking.specs.Shorts.{FitSpan, short_on, short_since, short_after, short_opened, short_stored, short_closed};
 
 use rules::Status;
-use units::{Clock, Event, Ps, time};
+use units::{Clock, Ps, time};
 
 // A minimum since clock n is not met. By the sum, as document 01 says it: the table's bounds keep it below 64 bits.
 #[tactic(auto, unfolding(crate::specs::Shorts::short_on))]
@@ -19,13 +19,13 @@ pub fn short_on(period: Ps, n: Clock, min: Ps, moment: Ps) -> bool
 
 // "A minimum is met if its event has never occurred."
 #[tactic(auto, unfolding(crate::specs::Shorts::short_since))]
-pub fn short_since(period: Ps, event: Event, min: Ps, moment: Ps) -> bool
+pub fn short_since(period: Ps, event: Option<Clock>, min: Ps, moment: Ps) -> bool
     requires { FitPeriod period × FitEvent event × FitSpan min }
     ensures { result ≡ short_since period event min moment }
 {
     match event {
-        Event::Never => false,
-        Event::On(n) => short_on(period, n, min, moment),
+        None => false,
+        Some(n) => short_on(period, n, min, moment),
     }
 }
 
@@ -36,34 +36,32 @@ pub fn short_opened(period: Ps, status: Status, min: Ps, moment: Ps) -> bool
     ensures { result ≡ short_opened period status min moment }
 {
     match status {
-        Status::NotStarted => false,
-        Status::Open { row: _, active } => short_on(period, active, min, moment),
-        Status::Closed { closing: _ } => false,
+        Status::Open { active, .. } => short_on(period, active, min, moment),
+        Status::NotStarted | Status::Closed { .. } => false,
     }
 }
 
 // Since an event, where that is after clock n.
 #[tactic(auto, unfolding(crate::specs::Shorts::short_after))]
-fn short_after(period: Ps, n: Clock, event: Event, min: Ps, moment: Ps) -> bool
+fn short_after(period: Ps, n: Clock, event: Option<Clock>, min: Ps, moment: Ps) -> bool
     requires { FitPeriod period × FitEvent event × FitSpan min }
     ensures { result ≡ short_after period n event min moment }
 {
     match event {
-        Event::Never => false,
-        Event::On(x) => (n.0 < x.0) & short_on(period, x, min, moment),
+        None => false,
+        Some(x) => n < x && short_on(period, x, min, moment),
     }
 }
 
 // Since the last store in an open bank, where that is "after its ACTIVE".
 #[tactic(auto, unfolding(crate::specs::Shorts::short_stored))]
-pub fn short_stored(period: Ps, status: Status, stored: Event, min: Ps, moment: Ps) -> bool
+pub fn short_stored(period: Ps, status: Status, stored: Option<Clock>, min: Ps, moment: Ps) -> bool
     requires { FitPeriod period × FitEvent stored × FitSpan min }
     ensures { result ≡ short_stored period status stored min moment }
 {
     match status {
-        Status::NotStarted => false,
-        Status::Open { row: _, active } => short_after(period, active, stored, min, moment),
-        Status::Closed { closing: _ } => false,
+        Status::Open { active, .. } => short_after(period, active, stored, min, moment),
+        Status::NotStarted | Status::Closed { .. } => false,
     }
 }
 
@@ -74,8 +72,7 @@ pub fn short_closed(status: Status, min: Ps, moment: Ps) -> bool
     ensures { result ≡ short_closed status min moment }
 {
     match status {
-        Status::NotStarted => false,
-        Status::Open { row: _, active: _ } => false,
+        Status::NotStarted | Status::Open { .. } => false,
         Status::Closed { closing } => moment.0 < closing.0 + min.0,
     }
 }

@@ -3,10 +3,8 @@ ghost use Rattle.std.specs.Prelude.{◌≡◌, true, ◌||◌, cond, eqb, ◌≤
 ghost use Rattle.layout.specs.Commands.{is, access};
 ghost use Rattle.bursts.specs.Bus.{bursts_finished, bus_clear};
 ghost use Rattle.layout.specs.declared.Command.TheVariants as Command;
-ghost use Rattle.speed.specs.Bounds.{Bounds};
 ghost use Rattle.rules.specs.Numbers.{first_broken, ◌⇒◌};
 ghost use Rattle.rules.specs.Parts.{word};
-ghost use Rattle.units.specs.Reach.{FitPeriod};
 ghost use Rattle.rules.specs.Admitted.{FitStatus};
 ghost use Rattle.rules.specs.Rules.{clock_max, mode_rules, bus_rules};
 ghost use Rattle.asking.specs.Answers.{auto_answer};
@@ -14,8 +12,8 @@ ghost use Rattle.asking.specs.Answers.{auto_answer};
 use crate::maxima;
 use bus::databus;
 use layout::{Command, Record};
-use mode::Decoded;
-use rules::{Core, Status, Verdict, closing, steps};
+use rules::timing::Timing;
+use rules::{Core, Refusal, Status, closing};
 use speed::SpeedTable;
 use units::{Clock, Module, Ps};
 
@@ -26,83 +24,75 @@ fn tck_of(t: SpeedTable, latency: u8) -> Ps
     if latency == 2 { t.tck2 } else { t.tck3 }
 }
 
-// 17 and 18 of a LOAD MODE: "all else is 17".
+// 17 and 18 of a LOAD MODE: "all else is 17". It asks nothing of table and period, where a Timing would.
 #[tactic(auto, unfolding(rules::specs::Rules::mode_rules))]
-pub fn mode_verdict(t: SpeedTable, unit: Module, period: Ps, r: Record) -> Verdict
+pub fn mode_verdict(t: SpeedTable, unit: Module, period: Ps, r: Record) -> Result<(), Refusal>
     ensures { result ≡ first_broken (mode_rules Command.LoadMode t unit period r) }
 {
-    let Decoded::Known(m) = mode::decode(unit, r.addr) else {
-        return Verdict::refused(17);
+    let Some(m) = mode::decode(unit, r.addr) else {
+        return Err(Refusal::ReservedMode);
     };
     if r.ba != 0 {
-        return Verdict::refused(17);
+        return Err(Refusal::ReservedMode);
     }
-    let tck = tck_of(t, m.latency);
-    if tck.0 <= period.0 {
-        Verdict::Taken
-    } else {
-        Verdict::refused(18)
+    if period < tck_of(t, m.latency) {
+        return Err(Refusal::ShortClock);
     }
+    Ok(())
 }
 
 // 21 and 22 of a READ or WRITE that asks auto precharge.
 #[tactic(auto, unfolding(crate::specs::Answers::auto_answer))]
-fn auto_verdict(k: Command, t: SpeedTable, c: Core, status: Status, n: Clock) -> Verdict
-    requires { Bounds t × FitPeriod c.period × FitStatus status × (n.0 ≤ clock_max) }
-    ensures { result ≡ auto_answer k t c status n }
+fn auto_verdict(
+    k: Command,
+    timing: Timing,
+    c: Core,
+    status: Status,
+    n: Clock,
+) -> Result<(), Refusal>
+    requires { (c.period ≡ timing.period) × FitStatus status × (n.0 ≤ clock_max) }
+    ensures { result ≡ auto_answer k timing.table c status n }
 {
-    let startup = c.startup;
-    let register = startup.register;
-    let word = steps::word_in(register);
-    if closing::ends_by_itself(k, word) {
-        let end = closing::burst_end(k, t, c.period, word, n);
-        if maxima::closes_within(t, c.period, end, status) {
-            return Verdict::Taken;
-        }
-        return Verdict::refused(22);
+    let word = c.startup.word();
+    if !closing::ends_by_itself(k, word) {
+        return Err(Refusal::EndlessBurst);
     }
-    Verdict::refused(21)
+    let end = closing::burst_end(k, timing, word, n);
+    if !maxima::closes_within(timing, end, status) {
+        return Err(Refusal::LateClosing);
+    }
+    Ok(())
 }
 
 // Number 20: a WRITE needs the data bus to itself, and no other command does.
 fn clear_for(k: Command, c: Core, n: Clock) -> bool
     ensures { result ≡ (is k Command.Write ⇒ bus_clear c.last c.bus.masks c.bus.reads n) }
 {
-    if layout::is(k, Command::Write) {
-        let last = c.last;
-        let bus = c.bus;
-        let held = bus.masks;
-        let reads = bus.reads;
-        return databus::bus_clear(last, held, reads, n);
-    }
-    true
+    k != Command::Write || databus::bus_clear(c.last, c.bus.masks, c.bus.reads, n)
 }
 
 // 19 to 22 of a WRITE, READ or BURST TERMINATE.
 #[tactic(auto, unfolding(bursts::specs::Bus::bursts_finished, bursts::specs::Bus::bus_clear, rules::specs::Rules::bus_rules))]
 pub fn bus_verdict(
     k: Command,
-    t: SpeedTable,
+    timing: Timing,
     c: Core,
     status: Status,
     r: Record,
     n: Clock,
-) -> Verdict
-    requires { Bounds t × FitPeriod c.period × FitStatus status × (n.0 ≤ clock_max) × ((access k || is k Command.Terminate) ≡ true) }
-    ensures { result ≡ first_broken (bus_rules k t c.period (word c) (bursts_finished c.bus.write c.bus.reads n)
+) -> Result<(), Refusal>
+    requires { (c.period ≡ timing.period) × FitStatus status × (n.0 ≤ clock_max) × ((access k || is k Command.Terminate) ≡ true) }
+    ensures { result ≡ first_broken (bus_rules k timing.table c.period (word c) (bursts_finished c.bus.write c.bus.reads n)
         (bus_clear c.last c.bus.masks c.bus.reads n) status r n) }
 {
-    let bus = c.bus;
-    let write = bus.write;
-    let reads = bus.reads;
-    if databus::bursts_finished(write, reads, n) {
-        if clear_for(k, c, n) {
-            if closing::asks_auto(k, r) {
-                return auto_verdict(k, t, c, status, n);
-            }
-            return Verdict::Taken;
-        }
-        return Verdict::refused(20);
+    if !databus::bursts_finished(c.bus.write, c.bus.reads, n) {
+        return Err(Refusal::UnfinishedBurst);
     }
-    Verdict::refused(19)
+    if !clear_for(k, c, n) {
+        return Err(Refusal::BusNotClear);
+    }
+    if closing::asks_auto(k, r) {
+        return auto_verdict(k, timing, c, status, n);
+    }
+    Ok(())
 }

@@ -4,120 +4,96 @@
 // its trace; host/bench_cases.py writes them.
 #![tactic(auto)]
 
-ghost use Rattle.std.specs.Prelude.{◌≤◌, ◌<◌, length, IfOk};
+ghost use Rattle.std.specs.Prelude.{◌≤◌, ◌<◌, length, IfOk, IfSome};
 
 use rules::Setup;
 use speed::SpeedTable;
-use std::io;
 use std::io::Read;
-use units::{Clock, Ps};
+use std::{fmt, io};
+use units::PAGE_BYTES;
 
-fn wide(x: u8) -> u64
-    ensures { result < 256 }
+// Two words for each of the first 64 records of a case.
+const WORDS: usize = 128;
+
+// A case: its number, its table, its trace.
+#[derive(Clone, Copy)]
+struct Case<'a> {
+    number: u8,
+    setup: Setup,
+    trace: &'a [u8],
+}
+
+// The table of thirteen numbers, "most significant bit first".
+fn table(bytes: &[u8; 52]) -> SpeedTable {
+    let mut n = [0u64; 13];
+    let (words, _) = bytes.as_chunks::<4>();
+    for (number, &word) in n.iter_mut().zip(words.iter()) {
+        *number = u64::from(u32::from_be_bytes(word));
+    }
+    SpeedTable::of_numbers(
+        n[0], n[1], n[2], n[3], n[4], n[5], n[6], n[7], n[8], n[9], n[10], n[11], n[12],
+    )
+}
+
+// The first case of these bytes, and the bytes after it; none where they hold no whole case.
+fn first_case(cases: &[u8]) -> Option<(Case<'_>, &[u8])>
+    ensures { IfSome result (λ p. length p.1.now < length cases.now) }
 {
-    x as u64
+    let (&[number, count], cases) = cases.split_first_chunk::<2>()?;
+    let (numbers, cases) = cases.split_first_chunk::<52>()?;
+    let (trace, rest) = cases.split_at_checked(16 + 16 * usize::from(count))?;
+    let setup = Setup {
+        table: table(numbers),
+    };
+    let case = Case {
+        number,
+        setup,
+        trace,
+    };
+    Some((case, rest))
 }
 
-// The byte there, or 0 past the end.
-fn byte(b: &[u8], at: usize) -> u64
-    ensures { result < 256 }
-{
-    if at < b.len() {
-        return wide(b[at]);
-    }
-    0
-}
+// The two words that the judge writes for a record.
+#[derive(Clone, Copy)]
+struct Beat([u64; 2]);
 
-// Number k of a case's table.
-fn number(b: &[u8], k: usize) -> u64
-    requires { k ≤ 12 }
-{
-    let at = 2 + 4 * k;
-    let b0 = byte(b, at);
-    let b1 = byte(b, at + 1);
-    let b2 = byte(b, at + 2);
-    let b3 = byte(b, at + 3);
-    b0 * 16_777_216 + b1 * 65_536 + b2 * 256 + b3
-}
-
-fn table(b: &[u8]) -> SpeedTable {
-    SpeedTable {
-        tck2: Ps(number(b, 0)),
-        tck3: Ps(number(b, 1)),
-        trasmin: Ps(number(b, 2)),
-        trasmax: Ps(number(b, 3)),
-        trc: Ps(number(b, 4)),
-        trcd: Ps(number(b, 5)),
-        trp: Ps(number(b, 6)),
-        trrd: Ps(number(b, 7)),
-        trfc: Ps(number(b, 8)),
-        twr: Ps(number(b, 9)),
-        addition: Ps(number(b, 10)),
-        interval: Ps(number(b, 11)),
-        tmrd: Clock(number(b, 12)),
+// ` R 13363 13 ff`; nothing where there is no beat.
+impl fmt::Display for Beat {
+    fn fmt<W: fmt::Write>(&self, f: &mut fmt::Formatter<W>) -> fmt::Result {
+        let [word, clock] = self.0;
+        let letter = match word / 281_474_976_710_656 % 256 {
+            0 => return Ok(()),
+            1 => 'R',
+            _ => 'W',
+        };
+        let column = word / 256 % 65_536;
+        let lanes = word % 256;
+        write!(f, " {letter} {clock} {column} {lanes:02x}")
     }
 }
 
-// A beat from its two words; nothing where there is none.
-fn print_beat(rt: &impl Print, word: u64, clock: u64) -> io::Result<()> {
-    let kind = word / 281_474_976_710_656 % 256;
-    if kind == 0 {
-        return Ok(());
-    }
-    let letter = if kind == 1 { "R" } else { "W" };
-    let column = word / 256 % 65_536;
-    let lanes = word % 256;
-    print!(rt; " {letter} {clock} {column} {lanes:02x}")
-}
-
-fn print_beats(rt: &impl Print, beats: &[u64; 128]) -> io::Result<()> {
-    for k in 0..64 {
-        print_beat(rt, beats[2 * k], beats[2 * k + 1])?;
-    }
-    Ok(())
-}
-
-// A case's number, and the verdict's number, record and interval.
-fn print_answer(rt: &impl Print, case: u64, answer: u64) -> io::Result<()> {
+// A case's line: its number, then what the answer's word says, then its beats.
+fn run_case(rt: &impl Print, case: Case<'_>) -> io::Result<()> {
+    let mut page = [0u8; PAGE_BYTES];
+    let mut beats = [0u64; WORDS];
+    let ran = hawsehole::judge(case.setup, case.trace, &mut page, &mut beats);
+    let answer = hawsehole::answer_word(ran);
     let number = answer % 256;
     let record = answer / 65_536;
     let interval = answer / 256 % 256;
-    print!(rt; "{case} {number} {record} {interval}")
-}
-
-fn run_case(rt: &impl Print, case: u64, u: Setup, trace: &[u8]) -> io::Result<()> {
-    let mut page = [0u8; 16384];
-    let mut beats = [0u64; 128];
-    let ran = hawsehole::judge(u, trace, &mut page, &mut beats);
-    print_answer(rt, case, hawsehole::answer_word(ran))?;
-    print_beats(rt, &beats)?;
+    print!(rt; "{} {number} {record} {interval}", case.number)?;
+    let (beats, _) = beats.as_chunks::<2>();
+    for &beat in beats {
+        rt.print(Beat(beat))?;
+    }
     println!(rt)
 }
 
-// Runs the first case of these bytes, and answers how many bytes it has; 0 where they hold no whole case.
-fn first_case(rt: &impl Print, cases: &[u8]) -> io::Result<usize> {
-    let count = byte(cases, 1) as usize;
-    let end = 70 + 16 * count;
-    if cases.len() < end {
-        return Ok(0);
-    }
-    let table = table(cases);
-    let u = Setup { table };
-    run_case(rt, byte(cases, 0), u, &cases[54..end])?;
-    Ok(end)
-}
-
 fn all_cases(rt: &impl Print, cases: &[u8]) -> io::Result<()> {
-    let mut at = 0;
-    while at < cases.len() {
-        let used = first_case(rt, &cases[at..])?;
-        if used == 0 {
-            return Ok(());
-        }
-        if cases.len() - at < used {
-            return Ok(());
-        }
-        at += used;
+    let mut rest = cases;
+    while let Some((case, after)) = first_case(rest) {
+        run_case(rt, case)?;
+        rest = after;
     }
     Ok(())
 }

@@ -1,4 +1,6 @@
 -- Recursions on the four READ bursts, as the code writes them out. Assumes nothing.
+use Rattle.std.specs.Prelude.{None}
+use Rattle.std.specs.List.{list_all}
 use Prim.Native.Nat.{ℕ}
 use native.Mathlib.Omega.{arith}
 use mathlib.Core.Path.{◌≡◌, refl, ap, ◌∙◌}
@@ -7,7 +9,6 @@ use mathlib.Core.List.{List, [], ◌∷◌}
 use lib.Dec.{ltb}
 use lib.ListN.{length, get_or}
 use Rattle.units.specs.declared.Clock.{Clock}
-use Rattle.units.specs.declared.Event.TheVariants.{Never}
 use Rattle.units.specs.Time.{clock}
 use Rattle.layout.specs.declared.Record.{Record}
 use Rattle.layout.specs.declared.Command.{Command}
@@ -30,7 +31,7 @@ use Rattle.bursts.specs.Bus.{
 
 -- what an array of bursts is taken to hold past its end
 abbrev pub past : Burst
-past = record { live = false; auto = false; bank = 0; row = 0; column = 0; start = clock 0; cut = Never; word = 0 }
+past = record { live = false; auto = false; bank = 0; row = 0; column = 0; start = clock 0; cut = None; word = 0 }
 
 -- the burst at place i
 abbrev pub burst : List Burst → ℕ → Burst
@@ -112,3 +113,8 @@ module _ (k : Command) (r : Record) (n : Clock) (word row : ℕ) (bs : List Burs
   pub after_others : is k Write ≡ false → is k Read ≡ false → cut_each k r.addr r.ba n bs ≡ reads_after k r n word row bs
   unfolding reads_from
   after_others w e = rw (w, e)
+
+-- each of the READs is finished
+pub all_finished : (n : Clock) (bs : List Burst) → list_all (λ b. finished (length_of b.word) n b) bs ≡ reads_finished n bs
+all_finished n [] = refl
+all_finished n (b ∷ bs) = rw (all_finished n bs)

@@ -1,4 +1,6 @@
 -- Which READs run on a clock, and when the bus is clear of them (01, Beats; number 20). Assumes nothing.
+use Rattle.std.specs.Prelude.{Option}
+use Rattle.std.specs.List.{list_all}
 use Prim.Native.Nat.{ℕ, ◌-◌, ◌≤◌}
 use native.Mathlib.Omega.{arith}
 use mathlib.Core.Path.{◌≡◌, refl, ap, ap₂, sym, ◌∙◌}
@@ -8,7 +10,6 @@ use lib.Dec.{ltb, eqb}
 use lib.ListN.{length}
 use borrow.Author.Tests.{eq-eqb, ne_eqb, eqb-true, eqb-false}
 use Rattle.units.specs.declared.Clock.{Clock}
-use Rattle.units.specs.declared.Event.{Event}
 use Rattle.mode.specs.Word.{latency}
 use Rattle.bursts.specs.declared.Burst.{Burst}
 use Rattle.bursts.specs.declared.Masks.{Masks}
@@ -94,6 +95,12 @@ pub clear_four : (bs : List Burst) → length bs ≡ 4 → (x y : Bool) (n m : C
     ≡ (not (x && reads_run bs n) && not (y && reads_run bs m))
 clear_four bs h x y n m = rw (reads_run_four bs h n, reads_run_four bs h m, neither_of_all, neither_of_all, neither_of_all)
 
+-- each of the READs is clear: none of them runs
+pub all_clear : (x y : Bool) (n m : Clock) (bs : List Burst)
+    → list_all (λ b. not (x && reads_on b n) && not (y && reads_on b m)) bs ≡ (not (x && reads_run bs n) && not (y && reads_run bs m))
+all_clear x y n m [] = rw (and-false x, and-false y)
+all_clear x y n m (b ∷ bs) = rw (all_clear x y n m bs, neither_of_all x y (reads_on b n) (reads_on b m) (reads_run bs n) (reads_run bs m))
+
 -- ── By masks ──
 
 -- a lane is LOW where the masks are not all HIGH
@@ -105,7 +112,7 @@ some_low masks h = go (eqb masks all_high) refl
     go false e = ne_eqb (lanes_low masks) 0 (λ z. eqb-false masks all_high e (omega arith)) ∙ sym e
 
 -- a lane is driven where some READ runs and the masks of two clocks before are not all HIGH
-pub driven_by_masks : (last : Event) (held : Masks) (bs : List Burst) (n earlier : Clock) (masks : ℕ)
+pub driven_by_masks : (last : Option Clock) (held : Masks) (bs : List Burst) (n earlier : Clock) (masks : ℕ)
     → earlier ≡ two_before n → masks ≡ masks_on last held earlier → masks ≤ all_high
     → driven last held bs n ≡ (not (eqb masks all_high) && reads_run bs n)
 unfolding driven
@@ -113,7 +120,7 @@ driven_by_masks last held bs n earlier masks p q h =
     rw (← p, ← q, drives_any, some_low masks h) (and_comm (reads_run bs n) (not (eqb masks all_high)))
 
 -- clear on n and on the clock before it: not driven on either
-pub clear_by_driven : (last : Event) (held : Masks) (bs : List Burst) (n m : Clock) (x y : Bool)
+pub clear_by_driven : (last : Option Clock) (held : Masks) (bs : List Burst) (n m : Clock) (x y : Bool)
     → m ≡ one_before n → driven last held bs n ≡ x → driven last held bs m ≡ y → (not x && not y) ≡ bus_clear last held bs n
 unfolding bus_clear
 clear_by_driven last held bs n m x y e p q =

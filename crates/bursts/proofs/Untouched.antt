@@ -6,7 +6,7 @@ use mathlib.Core.List.{List, [], ◌∷◌}
 use Rattle.units.specs.declared.Clock.{Clock}
 use Rattle.layout.specs.declared.Record.{Record}
 use Rattle.layout.specs.declared.Command.{Command}
-use Rattle.layout.specs.declared.Command.TheVariants.{Read, Write, Terminate, Precharge}
+use Rattle.layout.specs.declared.Command.TheVariants.{Inhibit, Nop, Active, Read, Write, Terminate, Precharge, Refresh, LoadMode}
 use Rattle.layout.specs.Commands.{is, access}
 use Rattle.bursts.specs.declared.Burst.{Burst}
 use Rattle.bursts.specs.Burst.{ends, cut_if, cut_by}
@@ -20,6 +20,18 @@ neither false b h = (refl, h)
 -- the command can end a burst
 abbrev pub can_end : Command → Bool
 can_end k = access k || is k Terminate || is k Precharge
+
+-- a command that is none of the four
+pub none_ended : (k : Command) → (k ≡ Read → ⊥) → (k ≡ Write → ⊥) → (k ≡ Terminate → ⊥) → (k ≡ Precharge → ⊥) → can_end k ≡ false
+none_ended Inhibit r w t p = refl
+none_ended Nop r w t p = refl
+none_ended Active r w t p = refl
+none_ended Read r w t p = absurd (r refl)
+none_ended Write r w t p = absurd (w refl)
+none_ended Terminate r w t p = absurd (t refl)
+none_ended Precharge r w t p = absurd (p refl)
+none_ended Refresh r w t p = refl
+none_ended LoadMode r w t p = refl
 
 -- a cut that is not asked is the identity
 pub cut_not_asked : (n : Clock) (b : Burst) → cut_if false n b ≡ b

@@ -1,8 +1,6 @@
 -- One burst: its registration, what cuts it, and its beats (01, Beats). Definitions only.
-use Rattle.std.specs.Prelude.{ℕ, ◌+◌, ◌-◌, max, Bool, true, false, not, ◌&&◌, ◌||◌, cond, leb, ltb}
+use Rattle.std.specs.Prelude.{ℕ, ◌+◌, ◌-◌, max, Bool, true, false, not, ◌&&◌, ◌||◌, cond, leb, ltb, Option, None, Some}
 use Rattle.units.specs.declared.Clock.{Clock}
-use Rattle.units.specs.declared.Event.{Event}
-use Rattle.units.specs.declared.Event.TheVariants.{Never, On}
 use Rattle.units.specs.Time.{clock}
 use Rattle.layout.specs.declared.Command.{Command}
 use Rattle.layout.specs.declared.Command.TheVariants.{Terminate, Precharge}
@@ -19,7 +17,7 @@ use Rattle.bursts.specs.declared.Beat.TheVariants.{Quiet, Stores, Drives}
 -- no burst; its mode word is a legal one, as every mode word that a state holds must be
 abbrev pub no_burst : Burst
 no_burst =
-    record { live = false; auto = false; bank = 0; row = 0; column = 0; start = clock 0; cut = Never; word = 0x30 }
+    record { live = false; auto = false; bank = 0; row = 0; column = 0; start = clock 0; cut = None; word = 0x30 }
 
 -- a READ or WRITE of bank `ba`, row `row`, registered on clock n: "a burst keeps the mode of its registration"
 abbrev pub burst_at : ℕ → Clock → ℕ → ℕ → ℕ → ℕ → Burst
@@ -31,7 +29,7 @@ burst_at word n addr column ba row =
       row = row;
       column = column;
       start = n;
-      cut = Never;
+      cut = None;
       word = word;
     }
 
@@ -43,13 +41,13 @@ ends k addr ba i = access k || is k Terminate || (is k Precharge && covers addr 
 
 -- the beat on clock n, w + i, is not "lost if .. stands at x with w < x <= w + i"; w is `start`, and a command that ended the burst
 -- stood on x, or none has
-abbrev pub before_cut : Clock → Clock → Event → Bool
-before_cut start n Never = true
-before_cut start n (On x) = not (ltb start.0 x.0 && leb x.0 n.0)
+abbrev pub before_cut : Clock → Clock → Option Clock → Bool
+before_cut start n None = true
+before_cut start n (Some x) = not (ltb start.0 x.0 && leb x.0 n.0)
 
 -- the cut of a burst that a command ends on clock n: the burst's own where that is as early, and where n is not after the start
-abbrev pub cut_on : Clock → Clock → Event → Event
-cut_on start n cut = cond (ltb start.0 n.0 && before_cut start n cut) (On n) cut
+abbrev pub cut_on : Clock → Clock → Option Clock → Option Clock
+cut_on start n cut = cond (ltb start.0 n.0 && before_cut start n cut) (Some n) cut
 
 -- a burst, cut on clock n where f asks it and there is one
 abbrev pub cut_if : Bool → Clock → Burst → Burst

@@ -1,8 +1,6 @@
 -- The data bus: all bursts and the masks, the beat on a clock, numbers 19 and 20 (01, Beats). Definitions only.
-use Rattle.std.specs.Prelude.{ℕ, ◌-◌, Bool, true, false, not, ◌&&◌, ◌||◌, cond, List, [], ◌∷◌, leb, ltb, eqb, get_or}
+use Rattle.std.specs.Prelude.{ℕ, ◌-◌, Bool, true, false, not, ◌&&◌, ◌||◌, cond, List, [], ◌∷◌, leb, ltb, eqb, get_or, Option, None, Some}
 use Rattle.units.specs.declared.Clock.{Clock}
-use Rattle.units.specs.declared.Event.{Event}
-use Rattle.units.specs.declared.Event.TheVariants.{Never, On}
 use Rattle.units.specs.Time.{clock}
 use Rattle.layout.specs.declared.Record.{Record}
 use Rattle.layout.specs.declared.Command.{Command}
@@ -23,9 +21,9 @@ abbrev pub all_high : ℕ
 all_high = 255
 
 -- the masks on clock m, where `last` is the clock of the last record: "a skipped clock had .. all masks HIGH"
-unfoldable pub masks_on : Event → Masks → Clock → ℕ
-masks_on Never held m = all_high
-masks_on (On x) held m =
+unfoldable pub masks_on : Option Clock → Masks → Clock → ℕ
+masks_on None held m = all_high
+masks_on (Some x) held m =
     cond (leb m.0 x.0) (get_or (held.first ∷ held.second ∷ held.third ∷ []) (x.0 - m.0) all_high) all_high
 
 -- "two clocks earlier" than n
@@ -125,7 +123,7 @@ bus_after k r n word row u =
     }
 
 -- "the beat on its own clock", n, of a record with these masks, from the bursts that it leaves; the masks before it are `held`
-unfoldable pub beat_on : Event → Masks → Burst → List Burst → ℕ → Clock → Beat
+unfoldable pub beat_on : Option Clock → Masks → Burst → List Burst → ℕ → Clock → Beat
 beat_on last held write reads masks n =
     or_else (write_beat write masks n) (reads_beat reads (masks_on last held (two_before n)) n)
 
@@ -145,14 +143,14 @@ drives_lane Quiet = false
 drives_lane (Stores c) = false
 drives_lane (Drives c) = not (eqb c.lanes 0)
 
-unfoldable pub driven : Event → Masks → List Burst → Clock → Bool
+unfoldable pub driven : Option Clock → Masks → List Burst → Clock → Bool
 driven last held reads n = drives_lane (reads_beat reads (masks_on last held (two_before n)) n)
 
 abbrev pub one_before : Clock → Clock
 one_before n = clock (n.0 - 1)
 
 -- 20: no lane "would be driven on its clock, or is driven one clock before"
-unfoldable pub bus_clear : Event → Masks → List Burst → Clock → Bool
+unfoldable pub bus_clear : Option Clock → Masks → List Burst → Clock → Bool
 bus_clear last held reads n = not (driven last held reads n) && not (driven last held reads (one_before n))
 
 -- ── Stores ──

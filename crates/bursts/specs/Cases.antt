@@ -1,8 +1,7 @@
 -- Bursts and the bus one sentence at a time: rows from the sentences of document 01's Beats, under one statement. Words in quotation
 -- marks are 01's, or those of reading 13 in docs/DECISIONS.md. Assumes nothing.
-use Rattle.std.specs.Prelude.{ℕ, zero, suc, ◌≡◌, refl, Bool, true, false, List, [], ◌∷◌, ◌++◌, replicate}
-use Rattle.units.specs.declared.Event.{Event}
-use Rattle.units.specs.declared.Event.TheVariants.{Never, On}
+use Rattle.units.specs.declared.Clock.{Clock}
+use Rattle.std.specs.Prelude.{ℕ, zero, suc, ◌≡◌, refl, Bool, true, false, List, [], ◌∷◌, ◌++◌, replicate, Option, None, Some}
 use Rattle.units.specs.Time.{clock}
 use Rattle.layout.specs.declared.Record.{Record}
 use Rattle.layout.specs.declared.Command.{Command}
@@ -71,7 +70,7 @@ abbrev from_100 : ℕ → ℕ → Burst
 from_100 word addr = from_clock 100 word addr
 
 -- a live burst of bank 1 and row 7 from column 0, each part as given
-abbrev burst : Bool → ℕ → Event → ℕ → Burst
+abbrev burst : Bool → ℕ → Option Clock → ℕ → Burst
 burst auto start cut word =
     record { live = true; auto = auto; bank = 1; row = 7; column = 0; start = clock start; cut = cut; word = word }
 
@@ -99,7 +98,7 @@ cut_at x b =
       row = b.row;
       column = b.column;
       start = b.start;
-      cut = On (clock x);
+      cut = Some (clock x);
       word = b.word;
     }
 
@@ -192,7 +191,7 @@ abbrev ended : Command → List Bool
 ended k = ends k 0x1bff 2 2 ∷ ends k 0x1bff 2 1 ∷ ends k 0x1fff 2 1 ∷ []
 
 -- whether a burst from clock 100 with this cut keeps its beats on these clocks
-abbrev kept : Event → List ℕ → List Bool
+abbrev kept : Option Clock → List ℕ → List Bool
 kept e [] = []
 kept e (n ∷ ns) = before_cut (clock 100) (clock n) e ∷ kept e ns
 
@@ -222,11 +221,11 @@ one = from_100 0x30 0
 
 -- whether its lanes are driven on 103, where the last record stood on this clock, with these masks before it
 abbrev lane_on : ℕ → Masks → Bool
-lane_on last held = driven (On (clock last)) held (one ∷ no_burst ∷ no_burst ∷ no_burst ∷ []) (clock 103)
+lane_on last held = driven (Some (clock last)) held (one ∷ no_burst ∷ no_burst ∷ no_burst ∷ []) (clock 103)
 
 -- whether the bus is clear for a WRITE on clock n
 abbrev clear : ℕ → Masks → List Burst → ℕ → Bool
-clear last held reads n = bus_clear (On (clock last)) held reads (clock n)
+clear last held reads n = bus_clear (Some (clock last)) held reads (clock n)
 
 -- on each of these clocks
 abbrev clears : ℕ → Masks → List Burst → List ℕ → List Bool
@@ -246,12 +245,12 @@ tests =
     ∷ ended Nop gives (false ∷ false ∷ false ∷ [])
     ∷ ended Inhibit gives (false ∷ false ∷ false ∷ [])
     -- "lost if .. stands at x with w < x <= w + i": w is 100, and w + i each of these clocks
-    ∷ kept Never (100 ∷ 101 ∷ []) gives (true ∷ true ∷ [])
-    ∷ kept (On (clock 102)) (101 ∷ 102 ∷ 103 ∷ []) gives (true ∷ false ∷ false ∷ [])
-    ∷ kept (On (clock 101)) (100 ∷ 101 ∷ []) gives (true ∷ false ∷ [])
+    ∷ kept None (100 ∷ 101 ∷ []) gives (true ∷ true ∷ [])
+    ∷ kept (Some (clock 102)) (101 ∷ 102 ∷ 103 ∷ []) gives (true ∷ false ∷ false ∷ [])
+    ∷ kept (Some (clock 101)) (100 ∷ 101 ∷ []) gives (true ∷ false ∷ [])
     -- a cut on the start's clock or before it loses nothing
-    ∷ kept (On (clock 100)) (100 ∷ 101 ∷ []) gives (true ∷ true ∷ [])
-    ∷ kept (On (clock 99)) (100 ∷ 101 ∷ []) gives (true ∷ true ∷ [])
+    ∷ kept (Some (clock 100)) (100 ∷ 101 ∷ []) gives (true ∷ true ∷ [])
+    ∷ kept (Some (clock 99)) (100 ∷ 101 ∷ []) gives (true ∷ true ∷ [])
     -- the beats of a burst: from its start, before start + length or without end, before the cut, and only while it is live
     ∷ beats_of (from_100 0x32 0) false gives (false ∷ true ∷ true ∷ true ∷ true ∷ false ∷ false ∷ [])
     ∷ beats_of (from_100 0x32 0) true gives (false ∷ true ∷ true ∷ true ∷ true ∷ true ∷ true ∷ [])
@@ -278,22 +277,22 @@ tests =
     ∷ coming (dead b100) 103 gives (false ∷ false ∷ [])
     ∷ coming no_burst 0 gives (false ∷ false ∷ [])
     -- "Unfinished means a clock before r + length or w + length": only of a live auto precharge burst
-    ∷ (finished 4 (clock 103) (burst true 100 Never 0x32) ∷ finished 4 (clock 104) (burst true 100 Never 0x32) ∷ [])
+    ∷ (finished 4 (clock 103) (burst true 100 None 0x32) ∷ finished 4 (clock 104) (burst true 100 None 0x32) ∷ [])
     gives (false ∷ true ∷ [])
-    ∷ (finished 4 (clock 99) (burst true 100 Never 0x32) ∷ finished 4 (clock 100) (burst true 100 Never 0x32) ∷ [])
+    ∷ (finished 4 (clock 99) (burst true 100 None 0x32) ∷ finished 4 (clock 100) (burst true 100 None 0x32) ∷ [])
     gives (false ∷ false ∷ [])
-    ∷ (finished 4 (clock 103) (burst false 100 Never 0x32) ∷ finished 4 (clock 103) (dead (burst true 100 Never 0x32)) ∷ [])
+    ∷ (finished 4 (clock 103) (burst false 100 None 0x32) ∷ finished 4 (clock 103) (dead (burst true 100 None 0x32)) ∷ [])
     gives (true ∷ true ∷ [])
     -- a cut does not finish it
-    ∷ (finished 4 (clock 103) (burst true 100 (On (clock 102)) 0x32) ∷ []) gives (false ∷ [])
+    ∷ (finished 4 (clock 103) (burst true 100 (Some (clock 102)) 0x32) ∷ []) gives (false ∷ [])
     -- 19 of a WRITE, with M9 of length 1; of a READ in any place, with M9 of its whole length
-    ∷ finished_by (burst true 100 Never 0x33) no_reads 107 gives (false ∷ true ∷ [])
-    ∷ finished_by (burst true 100 Never 0x233) no_reads 100 gives (false ∷ true ∷ [])
-    ∷ finished_by no_burst (burst true 100 Never 0x233 ∷ []) 107 gives (false ∷ true ∷ [])
-    ∷ finished_by no_burst (burst true 100 Never 0x21 ∷ []) 101 gives (false ∷ true ∷ [])
-    ∷ finished_by (burst false 100 Never 0x33) (burst false 100 Never 0x33 ∷ []) 100 gives (true ∷ true ∷ [])
-    ∷ at_places (λ l. bursts_finished no_burst l (clock 103)) (in_places (burst true 100 Never 0x32)) gives replicate 4 false
-    ∷ at_places (λ l. bursts_finished no_burst l (clock 104)) (in_places (burst true 100 Never 0x32)) gives replicate 4 true
+    ∷ finished_by (burst true 100 None 0x33) no_reads 107 gives (false ∷ true ∷ [])
+    ∷ finished_by (burst true 100 None 0x233) no_reads 100 gives (false ∷ true ∷ [])
+    ∷ finished_by no_burst (burst true 100 None 0x233 ∷ []) 107 gives (false ∷ true ∷ [])
+    ∷ finished_by no_burst (burst true 100 None 0x21 ∷ []) 101 gives (false ∷ true ∷ [])
+    ∷ finished_by (burst false 100 None 0x33) (burst false 100 None 0x33 ∷ []) 100 gives (true ∷ true ∷ [])
+    ∷ at_places (λ l. bursts_finished no_burst l (clock 103)) (in_places (burst true 100 None 0x32)) gives replicate 4 false
+    ∷ at_places (λ l. bursts_finished no_burst l (clock 104)) (in_places (burst true 100 None 0x32)) gives replicate 4 true
     ∷ (reads_finished (clock 0) [] ∷ reads_finished (clock 0) no_reads ∷ []) gives (true ∷ true ∷ [])
     -- some READ has a beat; some READ registered after a clock has one
     ∷ at_places (λ l. reads_run l (clock 103)) (in_places one) gives replicate 4 true
@@ -308,7 +307,7 @@ tests =
     ∷ (lane_on 102 (masks 0xff 0xfe 0xff) ∷ lane_on 102 (masks 0 0xff 0) ∷ []) gives (true ∷ false ∷ [])
     ∷ (lane_on 103 (masks 0xff 0xff 0xfe) ∷ lane_on 103 (masks 0 0 0xff) ∷ []) gives (true ∷ false ∷ [])
     -- a skipped clock had all masks HIGH, and three clocks back is as far as 20 looks
-    ∷ (lane_on 100 (masks 0 0 0) ∷ lane_on 104 (masks 0 0 0) ∷ driven Never (masks 0 0 0) (one ∷ []) (clock 103) ∷ [])
+    ∷ (lane_on 100 (masks 0 0 0) ∷ lane_on 104 (masks 0 0 0) ∷ driven None (masks 0 0 0) (one ∷ []) (clock 103) ∷ [])
     gives (false ∷ false ∷ false ∷ [])
     ∷ (drives_lane (R 0 0x80) ∷ drives_lane (R 0 0x01) ∷ drives_lane (R 0 0) ∷ drives_lane (W 0 0xff) ∷ drives_lane Quiet ∷ [])
     gives (true ∷ true ∷ false ∷ false ∷ false ∷ [])
@@ -323,7 +322,7 @@ tests =
     ∷ at_places (λ l. clear 101 (masks 0 0xff 0xff) l 105) (in_places one) gives replicate 4 true
     -- on clocks 0 and 1 no READ has a beat
     ∷ clears 0 (masks 0 0 0) (from_clock 0 0x20 0 ∷ []) (0 ∷ 1 ∷ 2 ∷ []) gives (true ∷ true ∷ false ∷ [])
-    ∷ (bus_clear Never (masks 0 0 0) (from_clock 0 0x20 0 ∷ []) (clock 0) ∷ []) gives (true ∷ [])
+    ∷ (bus_clear None (masks 0 0 0) (from_clock 0 0x20 0 ∷ []) (clock 0) ∷ []) gives (true ∷ [])
     -- a byte is stored in the beat's own bank, where some lane is
     ∷ (stores_in (W 0 0x01) 1 ∷ stores_in (W 0 0x80) 1 ∷ stores_in (W 0 0) 1 ∷ []) gives (true ∷ true ∷ false ∷ [])
     ∷ (stores_in (W 0 0xff) 0 ∷ stores_in (W 0 0xff) 2 ∷ stores_in (W 0 0xff) 3 ∷ []) gives (false ∷ false ∷ false ∷ [])
@@ -334,14 +333,14 @@ tests =
 
 -- the masks on clock m, where the last record stood on clock 100 with masks 1, after masks 2 and 3
 abbrev mask_on : ℕ → ℕ
-mask_on m = masks_on (On (clock 100)) (masks 1 2 3) (clock m)
+mask_on m = masks_on (Some (clock 100)) (masks 1 2 3) (clock m)
 
 abbrev numbers : List (Row (List ℕ))
 numbers =
     (mask_on 100 ∷ mask_on 99 ∷ mask_on 98 ∷ mask_on 97 ∷ mask_on 0 ∷ []) gives (1 ∷ 2 ∷ 3 ∷ 255 ∷ 255 ∷ [])
     -- "a skipped clock had .. all masks HIGH": after the last record, and before the first
-    ∷ (mask_on 101 ∷ mask_on 102 ∷ masks_on Never (masks 1 2 3) (clock 0) ∷ []) gives (255 ∷ 255 ∷ 255 ∷ [])
-    ∷ (masks_on (On (clock 1)) (masks 1 2 3) (clock 0) ∷ masks_on (On (clock 0)) (masks 1 2 3) (clock 0) ∷ []) gives (2 ∷ 1 ∷ [])
+    ∷ (mask_on 101 ∷ mask_on 102 ∷ masks_on None (masks 1 2 3) (clock 0) ∷ []) gives (255 ∷ 255 ∷ 255 ∷ [])
+    ∷ (masks_on (Some (clock 1)) (masks 1 2 3) (clock 0) ∷ masks_on (Some (clock 0)) (masks 1 2 3) (clock 0) ∷ []) gives (2 ∷ 1 ∷ [])
     ∷ ((two_before (clock 100)).0 ∷ (two_before (clock 2)).0 ∷ (two_before (clock 3)).0 ∷ []) gives (98 ∷ 0 ∷ 1 ∷ [])
     ∷ ((two_before (clock 0)).0 ∷ (two_before (clock 1)).0 ∷ []) gives (0 ∷ 0 ∷ [])
     ∷ ((one_before (clock 100)).0 ∷ (one_before (clock 1)).0 ∷ (one_before (clock 0)).0 ∷ []) gives (99 ∷ 0 ∷ 0 ∷ [])
@@ -360,92 +359,92 @@ masks_left =
 -- ── Cuts ──
 
 -- the cut of a burst from clock 100 that a command ends on clock n
-abbrev cut : ℕ → Event → Event
+abbrev cut : ℕ → Option Clock → Option Clock
 cut n e = cut_on (clock 100) (clock n) e
 
-abbrev cuts : List (Row Event)
+abbrev cuts : List (Row (Option Clock))
 cuts =
     -- "at x with w < x": not on the start's clock, nor before it
-    cut 102 Never gives On (clock 102)
-    ∷ cut 101 Never gives On (clock 101)
-    ∷ cut 100 Never gives Never
-    ∷ cut 99 Never gives Never
+    cut 102 None gives Some (clock 102)
+    ∷ cut 101 None gives Some (clock 101)
+    ∷ cut 100 None gives None
+    ∷ cut 99 None gives None
     -- of two cuts after the start the earlier counts
-    ∷ cut 103 (On (clock 102)) gives On (clock 102)
-    ∷ cut 102 (On (clock 102)) gives On (clock 102)
-    ∷ cut 102 (On (clock 103)) gives On (clock 102)
-    ∷ cut 100 (On (clock 103)) gives On (clock 103)
-    ∷ cut 99 (On (clock 103)) gives On (clock 103)
+    ∷ cut 103 (Some (clock 102)) gives Some (clock 102)
+    ∷ cut 102 (Some (clock 102)) gives Some (clock 102)
+    ∷ cut 102 (Some (clock 103)) gives Some (clock 102)
+    ∷ cut 100 (Some (clock 103)) gives Some (clock 103)
+    ∷ cut 99 (Some (clock 103)) gives Some (clock 103)
     -- a held cut on the start's clock or before it is none
-    ∷ cut 103 (On (clock 100)) gives On (clock 103)
-    ∷ cut 103 (On (clock 99)) gives On (clock 103)
-    ∷ cut 101 (On (clock 100)) gives On (clock 101)
+    ∷ cut 103 (Some (clock 100)) gives Some (clock 103)
+    ∷ cut 103 (Some (clock 99)) gives Some (clock 103)
+    ∷ cut 101 (Some (clock 100)) gives Some (clock 101)
     ∷ []
 
 -- ── Bursts ──
 
 -- one with a value of its own in each part
-abbrev odd : Event → Burst
+abbrev odd : Option Clock → Burst
 odd e = record { live = true; auto = true; bank = 3; row = 8191; column = 1029; start = clock 100; cut = e; word = 0x233 }
 
 -- one of bank 2
-abbrev second : Event → Burst
+abbrev second : Option Clock → Burst
 second e = record { live = true; auto = false; bank = 2; row = 9; column = 0; start = clock 100; cut = e; word = 0x33 }
 
 abbrev bursts : List (Row Burst)
 bursts =
     no_burst
-    gives record { live = false; auto = false; bank = 0; row = 0; column = 0; start = clock 0; cut = Never; word = 0x30 }
+    gives record { live = false; auto = false; bank = 0; row = 0; column = 0; start = clock 0; cut = None; word = 0x30 }
     -- "A10 asks auto precharge"; "a burst keeps the mode of its registration"
-    ∷ burst_at 0x233 (clock 100) 0xc05 1029 3 8191 gives odd Never
+    ∷ burst_at 0x233 (clock 100) 0xc05 1029 3 8191 gives odd None
     ∷ burst_at 0x30 (clock 7) 0x1bff 2047 2 5
-    gives record { live = true; auto = false; bank = 2; row = 5; column = 2047; start = clock 7; cut = Never; word = 0x30 }
+    gives record { live = true; auto = false; bank = 2; row = 5; column = 2047; start = clock 7; cut = None; word = 0x30 }
     -- a cut changes nothing else; no command, no cut
-    ∷ cut_if true (clock 102) (odd Never) gives odd (On (clock 102))
-    ∷ cut_if false (clock 102) (odd Never) gives odd Never
-    ∷ cut_if false (clock 102) (odd (On (clock 103))) gives odd (On (clock 103))
+    ∷ cut_if true (clock 102) (odd None) gives odd (Some (clock 102))
+    ∷ cut_if false (clock 102) (odd None) gives odd None
+    ∷ cut_if false (clock 102) (odd (Some (clock 103))) gives odd (Some (clock 103))
     -- what is no burst is not cut, nor is its old cut moved
-    ∷ cut_if true (clock 102) (dead (odd Never)) gives dead (odd Never)
-    ∷ cut_if true (clock 102) (dead (odd (On (clock 104)))) gives dead (odd (On (clock 104)))
-    ∷ cut_by Precharge 1024 0 (clock 102) (dead (odd Never)) gives dead (odd Never)
+    ∷ cut_if true (clock 102) (dead (odd None)) gives dead (odd None)
+    ∷ cut_if true (clock 102) (dead (odd (Some (clock 104)))) gives dead (odd (Some (clock 104)))
+    ∷ cut_by Precharge 1024 0 (clock 102) (dead (odd None)) gives dead (odd None)
     -- PRECHARGE of its bank, 3, of another, of all; the other commands
-    ∷ cut_by Precharge 0 3 (clock 102) (odd Never) gives odd (On (clock 102))
-    ∷ cut_by Precharge 0 0 (clock 102) (odd Never) gives odd Never
-    ∷ cut_by Precharge 1024 0 (clock 102) (odd Never) gives odd (On (clock 102))
-    ∷ cut_by Read 0 0 (clock 102) (odd Never) gives odd (On (clock 102))
-    ∷ cut_by Write 0 0 (clock 102) (odd Never) gives odd (On (clock 102))
-    ∷ cut_by Terminate 0 0 (clock 102) (odd Never) gives odd (On (clock 102))
-    ∷ cut_by Nop 0 3 (clock 102) (odd Never) gives odd Never
-    ∷ cut_by Active 0 3 (clock 102) (odd Never) gives odd Never
+    ∷ cut_by Precharge 0 3 (clock 102) (odd None) gives odd (Some (clock 102))
+    ∷ cut_by Precharge 0 0 (clock 102) (odd None) gives odd None
+    ∷ cut_by Precharge 1024 0 (clock 102) (odd None) gives odd (Some (clock 102))
+    ∷ cut_by Read 0 0 (clock 102) (odd None) gives odd (Some (clock 102))
+    ∷ cut_by Write 0 0 (clock 102) (odd None) gives odd (Some (clock 102))
+    ∷ cut_by Terminate 0 0 (clock 102) (odd None) gives odd (Some (clock 102))
+    ∷ cut_by Nop 0 3 (clock 102) (odd None) gives odd None
+    ∷ cut_by Active 0 3 (clock 102) (odd None) gives odd None
     -- each of the four on the burst's clock, or before it
-    ∷ cut_by Read 0 3 (clock 100) (odd Never) gives odd Never
-    ∷ cut_by Write 0 3 (clock 100) (odd Never) gives odd Never
-    ∷ cut_by Terminate 0 3 (clock 99) (odd Never) gives odd Never
-    ∷ cut_by Precharge 0 3 (clock 99) (odd Never) gives odd Never
+    ∷ cut_by Read 0 3 (clock 100) (odd None) gives odd None
+    ∷ cut_by Write 0 3 (clock 100) (odd None) gives odd None
+    ∷ cut_by Terminate 0 3 (clock 99) (odd None) gives odd None
+    ∷ cut_by Precharge 0 3 (clock 99) (odd None) gives odd None
     -- the WRITE burst after a WRITE of bank 2, row 9; after a READ; after a PRECHARGE of bank 2, which is not the burst's; after a NOP
-    ∷ write_after Write (rec 0 Write 0x405 0) (clock 102) 0x31 9 (odd Never)
-    gives record { live = true; auto = true; bank = 2; row = 9; column = 5; start = clock 102; cut = Never; word = 0x31 }
-    ∷ write_after Read (rec 0 Read 5 0) (clock 102) 0x31 9 (odd Never) gives odd (On (clock 102))
-    ∷ write_after Precharge (rec 0 Precharge 0 0) (clock 102) 0x31 9 (odd Never) gives odd Never
-    ∷ write_after Precharge (rec 0 Precharge 0 0) (clock 102) 0x31 9 (second Never) gives second (On (clock 102))
-    ∷ write_after Precharge (rec 0 Precharge 1024 0) (clock 102) 0x31 9 (odd Never) gives odd (On (clock 102))
-    ∷ write_after Nop (rec 0 Nop 0 0) (clock 102) 0x31 9 (odd Never) gives odd Never
+    ∷ write_after Write (rec 0 Write 0x405 0) (clock 102) 0x31 9 (odd None)
+    gives record { live = true; auto = true; bank = 2; row = 9; column = 5; start = clock 102; cut = None; word = 0x31 }
+    ∷ write_after Read (rec 0 Read 5 0) (clock 102) 0x31 9 (odd None) gives odd (Some (clock 102))
+    ∷ write_after Precharge (rec 0 Precharge 0 0) (clock 102) 0x31 9 (odd None) gives odd None
+    ∷ write_after Precharge (rec 0 Precharge 0 0) (clock 102) 0x31 9 (second None) gives second (Some (clock 102))
+    ∷ write_after Precharge (rec 0 Precharge 1024 0) (clock 102) 0x31 9 (odd None) gives odd (Some (clock 102))
+    ∷ write_after Nop (rec 0 Nop 0 0) (clock 102) 0x31 9 (odd None) gives odd None
     ∷ []
 
 -- ── The READs after a command ──
 
 -- the READ that a record for bank 2, row 9 registers on clock 110
 abbrev new : Burst
-new = record { live = true; auto = false; bank = 2; row = 9; column = 5; start = clock 110; cut = Never; word = 0x31 }
+new = record { live = true; auto = false; bank = 2; row = 9; column = 5; start = clock 110; cut = None; word = 0x31 }
 
 abbrev reads_left : List (Row (List Burst))
 reads_left =
     -- a command cuts each of them that it ends
     cut_each Terminate 0 2 (clock 102) (b100 ∷ b101 ∷ no_burst ∷ b103 ∷ [])
     gives (cut_at 102 b100 ∷ cut_at 102 b101 ∷ no_burst ∷ b103 ∷ [])
-    ∷ cut_each Precharge 0 2 (clock 102) (b100 ∷ odd Never ∷ []) gives (b100 ∷ odd Never ∷ [])
-    ∷ cut_each Precharge 0 3 (clock 102) (b100 ∷ odd Never ∷ []) gives (b100 ∷ odd (On (clock 102)) ∷ [])
-    ∷ cut_each Precharge 1024 0 (clock 102) (b100 ∷ odd Never ∷ []) gives (cut_at 102 b100 ∷ odd (On (clock 102)) ∷ [])
+    ∷ cut_each Precharge 0 2 (clock 102) (b100 ∷ odd None ∷ []) gives (b100 ∷ odd None ∷ [])
+    ∷ cut_each Precharge 0 3 (clock 102) (b100 ∷ odd None ∷ []) gives (b100 ∷ odd (Some (clock 102)) ∷ [])
+    ∷ cut_each Precharge 1024 0 (clock 102) (b100 ∷ odd None ∷ []) gives (cut_at 102 b100 ∷ odd (Some (clock 102)) ∷ [])
     ∷ no_reads gives (no_burst ∷ no_burst ∷ no_burst ∷ no_burst ∷ [])
     -- "a WRITE at x with r < x": a READ before it, in any place; not one on its clock, nor ahead of it
     ∷ written_over (clock 102) (b101 ∷ b100 ∷ b100 ∷ b101 ∷ []) gives no_reads
@@ -480,13 +479,13 @@ reads_left =
     ∷ reads_from Terminate 0 2 (clock 110) new (b103 ∷ over ∷ b101 ∷ b100 ∷ [])
     gives (cut_at 110 b103 ∷ cut_at 110 over ∷ cut_at 110 b101 ∷ cut_at 110 b100 ∷ [])
     -- a PRECHARGE of bank 2, and of all
-    ∷ reads_after Precharge (rec 0 Precharge 0 0) (clock 102) 0x31 9 (b100 ∷ second Never ∷ [])
-    gives (b100 ∷ second (On (clock 102)) ∷ [])
-    ∷ reads_after Precharge (rec 0 Precharge 1024 0) (clock 102) 0x31 9 (b100 ∷ second Never ∷ [])
-    gives (cut_at 102 b100 ∷ second (On (clock 102)) ∷ [])
+    ∷ reads_after Precharge (rec 0 Precharge 0 0) (clock 102) 0x31 9 (b100 ∷ second None ∷ [])
+    gives (b100 ∷ second (Some (clock 102)) ∷ [])
+    ∷ reads_after Precharge (rec 0 Precharge 1024 0) (clock 102) 0x31 9 (b100 ∷ second None ∷ [])
+    gives (cut_at 102 b100 ∷ second (Some (clock 102)) ∷ [])
     -- a READ with auto precharge
     ∷ reads_after Read (rec 0 Read 0x405 0) (clock 110) 0x31 9 []
-    gives (record { live = true; auto = true; bank = 2; row = 9; column = 5; start = clock 110; cut = Never; word = 0x31 } ∷ [])
+    gives (record { live = true; auto = true; bank = 2; row = 9; column = 5; start = clock 110; cut = None; word = 0x31 } ∷ [])
     -- a READ cuts those before it: what they fetched is still to come, and they stay
     ∷ reads_after Read (rec 0 Read 5 0) (clock 110) 0x31 9 (b103 ∷ b102 ∷ no_burst ∷ b101 ∷ [])
     gives (new ∷ cut_at 110 b103 ∷ cut_at 110 b102 ∷ cut_at 110 b101 ∷ [])
@@ -505,21 +504,21 @@ buses =
     quiet_bus gives record { write = no_burst; reads = no_reads; masks = masks 255 255 255 }
     -- a READ of bank 2 after one skipped clock with masks 0F
     ∷ bus_after Read (rec 1 Read 5 0x0f) (clock 110) 0x31 9
-    (record { write = odd Never; reads = b103 ∷ over ∷ b101 ∷ b100 ∷ []; masks = masks 1 2 3 })
+    (record { write = odd None; reads = b103 ∷ over ∷ b101 ∷ b100 ∷ []; masks = masks 1 2 3 })
     gives record {
-      write = odd (On (clock 110));
+      write = odd (Some (clock 110));
       reads = new ∷ cut_at 110 b103 ∷ cut_at 110 b101 ∷ cut_at 110 b100 ∷ [];
       masks =
           masks 0x0f 255 1;
     }
     -- a WRITE on the next clock
     ∷ bus_after Write (rec 0 Write 5 0x0f) (clock 110) 0x31 9
-    (record { write = odd Never; reads = b103 ∷ over ∷ b101 ∷ b100 ∷ []; masks = masks 1 2 3 })
+    (record { write = odd None; reads = b103 ∷ over ∷ b101 ∷ b100 ∷ []; masks = masks 1 2 3 })
     gives record { write = new; reads = no_reads; masks = masks 0x0f 1 2 }
     -- a NOP after two skipped clocks
     ∷ bus_after Nop (rec 2 Nop 5 0x0f) (clock 110) 0x31 9
-    (record { write = odd Never; reads = b103 ∷ over ∷ b101 ∷ b100 ∷ []; masks = masks 1 2 3 })
-    gives record { write = odd Never; reads = b103 ∷ over ∷ b101 ∷ b100 ∷ []; masks = masks 0x0f 255 255 }
+    (record { write = odd None; reads = b103 ∷ over ∷ b101 ∷ b100 ∷ []; masks = masks 1 2 3 })
+    gives record { write = odd None; reads = b103 ∷ over ∷ b101 ∷ b100 ∷ []; masks = masks 0x0f 255 255 }
     ∷ []
 
 -- ── Beats ──
@@ -530,7 +529,7 @@ read_on n l = reads_beat l 0 (clock n)
 
 -- a WRITE burst from column 0 and a READ with CL 3 from column 8, both on clock 100, where the last record stood on 102
 abbrev both : Burst → Burst → ℕ → Beat
-both w r n = beat_on (On (clock 102)) (masks 0xf0 0x0e 0x0d) w (no_burst ∷ r ∷ []) 0x81 (clock n)
+both w r n = beat_on (Some (clock 102)) (masks 0xf0 0x0e 0x0d) w (no_burst ∷ r ∷ []) 0x81 (clock n)
 
 -- a beat with each of these masks
 abbrev masked : (ℕ → Beat) → List ℕ → List Beat
@@ -561,9 +560,9 @@ beats =
     -- "Lanes with DQMB LOW on that clock are stored"; "a beat with no lane stored is reported with lanes 00"
     ∷ masked (λ m. write_beat (from_100 0x32 6) m (clock 101)) (0xf0 ∷ 0x01 ∷ 0xff ∷ []) gives (W 7 0x0f ∷ W 7 0xfe ∷ W 7 0 ∷ [])
     -- the burst's own bank and row
-    ∷ (write_beat (odd Never) 0 (clock 100) ∷ [])
+    ∷ (write_beat (odd None) 0 (clock 100) ∷ [])
     gives (Stores (record { bank = 3; row = 8191; column = 1029; lanes = 255 }) ∷ [])
-    ∷ (read_beat (odd Never) 0 (clock 104) ∷ []) gives (Drives (record { bank = 3; row = 8191; column = 1030; lanes = 255 }) ∷ [])
+    ∷ (read_beat (odd None) 0 (clock 104) ∷ []) gives (Drives (record { bank = 3; row = 8191; column = 1030; lanes = 255 }) ∷ [])
     -- "beat i on r + CL + i"
     ∷ reads (from_100 0x3b 13) 102 10 gives (silent ++ Rs (13 ∷ 12 ∷ 15 ∷ 14 ∷ 9 ∷ 8 ∷ 11 ∷ 10 ∷ []) ++ silent)
     ∷ reads (from_100 0x22 0) 101 6 gives (silent ++ Rs (0 ∷ 1 ∷ 2 ∷ 3 ∷ []) ++ silent)

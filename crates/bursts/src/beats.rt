@@ -6,16 +6,16 @@ ghost use Rattle.bursts.specs.Burst.{before_cut, in_time, has_beat, lanes_low, c
 
 use crate::{Beat, Burst, Cells};
 use mode::{beat_column, full_page, latency, length_of, write_endless, write_length};
-use units::{Clock, Event};
+use units::Clock;
 
 // The beat on clock n is not lost. A cut on x takes it where "w < x <= w + i": one on the beat's own clock does, one that is
 // not after the burst's start does not.
-pub fn before_cut(start: Clock, n: Clock, cut: Event) -> bool
+pub fn before_cut(start: Clock, n: Clock, cut: Option<Clock>) -> bool
     ensures { result ≡ before_cut start n cut }
 {
     match cut {
-        Event::Never => true,
-        Event::On(x) => !((start.0 < x.0) & (x.0 <= n.0)),
+        None => true,
+        Some(x) => !((start.0 < x.0) & (x.0 <= n.0)),
     }
 }
 
@@ -44,13 +44,11 @@ pub fn lanes_low(masks: u8) -> u8
 pub fn cells_at(bank: u8, row: u16, word: u16, column: u16, i: u64, masks: u8) -> Cells
     ensures { result ≡ cells_at bank row word column i masks }
 {
-    let place = beat_column(word, column, i);
-    let lanes = lanes_low(masks);
     Cells {
         bank,
         row,
-        column: place,
-        lanes,
+        column: beat_column(word, column, i),
+        lanes: lanes_low(masks),
     }
 }
 
@@ -83,6 +81,7 @@ impl Burst {
     }
 
     // "WRITE at w: beat i on w + i", stored on the lanes with DQMB LOW on that clock. With M9 = 1 there is one beat.
+    #[tactic(auto, using(crate::proofs::HasBeat::beat_in_time, crate::proofs::HasBeat::none_out_of_time), unfolding(crate::specs::Burst::write_beat))]
     pub fn write_beat(self, masks: u8, n: Clock) -> Beat
         ensures { result ≡ write_beat self masks n }
     {
@@ -90,13 +89,11 @@ impl Burst {
             return Beat::Quiet;
         }
         let i = n.0 - self.start.0;
-        let length = write_length(self.word);
-        let endless = write_endless(self.word);
-        if endless | (i < length as u64) {
-            let cells = cells_at(self.bank, self.row, self.word, self.column, i, masks);
-            return Beat::Stores(cells);
+        if write_endless(self.word) || i < write_length(self.word) as u64 {
+            Beat::Stores(cells_at(self.bank, self.row, self.word, self.column, i, masks))
+        } else {
+            Beat::Quiet
         }
-        Beat::Quiet
     }
 
     // "READ at r: beat i on r + CL + i": on clock n runs the beat that was fetched CL clocks before.
@@ -120,50 +117,47 @@ impl Burst {
     }
 
     // Some beat is on clock n or later. Beats are fetched clock after clock, so the first from CL before n on tells.
+    #[tactic(auto, using(crate::proofs::HasBeat::none_where_no_burst))]
     pub fn to_come(self, n: Clock) -> bool
         ensures { result ≡ to_come n self }
     {
-        if !self.live {
-            return false;
-        }
         let cl = latency(self.word) as u64;
-        let start = self.start;
-        let m = first_fetch(start, n, cl);
-        let length = length_of(self.word);
-        let endless = full_page(self.word);
-        self.has_beat(length, endless, m)
+        let m = first_fetch(self.start, n, cl);
+        self.live && self.has_beat(length_of(self.word), full_page(self.word), m)
     }
 
     // The beat on clock n. `masks` are those of two clocks before n.
+    #[tactic(auto, using(crate::proofs::HasBeat::fetched_since), unfolding(crate::specs::Burst::read_beat))]
     pub fn read_beat(self, masks: u8, n: Clock) -> Beat
         ensures { result ≡ read_beat self masks n }
     {
         if self.reads_on(n) {
             let cl = latency(self.word) as u64;
             let i = n.0 - cl - self.start.0;
-            let cells = cells_at(self.bank, self.row, self.word, self.column, i, masks);
-            return Beat::Drives(cells);
+            Beat::Drives(cells_at(self.bank, self.row, self.word, self.column, i, masks))
+        } else {
+            Beat::Quiet
         }
-        Beat::Quiet
     }
 
     // No auto precharge burst, or one that is finished on clock n: "unfinished means a clock before r + length or
     // w + length". By subtraction, as above.
+    #[tactic(auto, using(units::proofs::Subtraction::leb_since, units::proofs::Subtraction::leb_ahead), unfolding(crate::specs::Burst::finished))]
     pub fn finished(self, length: u16, n: Clock) -> bool
         ensures { result ≡ finished length n self }
     {
         if !(self.live & self.auto) {
             return true;
         }
-        let start = self.start.0;
-        if n.0 < start {
+        if n < self.start {
             return false;
         }
-        length as u64 <= n.0 - start
+        length as u64 <= n.0 - self.start.0
     }
 
     // A READ's burst asks no auto precharge, or is finished on clock n. Number 19 ends at r + length, though beats run on
     // for CL clocks. The length is worked out only where it is asked for.
+    #[tactic(auto, using(crate::proofs::AutoPrecharge::none_is_finished))]
     pub fn read_finished(self, n: Clock) -> bool
         ensures { result ≡ finished (length_of self.word) n self }
     {

@@ -3,36 +3,33 @@ ghost use Rattle.std.specs.Prelude.{◌≡◌, cond, ltb};
 ghost use Rattle.bursts.specs.Burst.{no_burst, burst_at, ends, cut_on, cut_if, cut_by};
 
 use crate::Burst;
-use layout::{Command, a10, covers, is, is_access};
-use units::{Clock, Event};
+use layout::{Command, a10, covers};
+use units::Clock;
 
 // "READ, WRITE, BURST TERMINATE, or PRECHARGE of its bank": whether the command ends a burst of bank i. The first three
 // end it whatever bank they are for, and PRECHARGE ALL is for each.
 pub fn ends(k: Command, addr: u16, ba: u8, i: u8) -> bool
     ensures { result ≡ ends k addr ba i }
 {
-    let own = covers(addr, ba, i);
-    is_access(k) | is(k, Command::Terminate) | (is(k, Command::Precharge) & own)
+    match k {
+        Command::Read | Command::Write | Command::Terminate => true,
+        Command::Precharge => covers(addr, ba, i),
+        _ => false,
+    }
 }
 
 // The cut of a burst from clock `start`, where one on clock n is asked. It counts after the start only, and where no earlier
 // one does: what a cut took is lost for good.
-fn cut_on(f: bool, start: Clock, n: Clock, cut: Event) -> Event
+fn cut_on(f: bool, start: Clock, n: Clock, cut: Option<Clock>) -> Option<Clock>
     ensures { result ≡ cond f (cut_on start n cut) cut }
 {
     match cut {
-        Event::Never => {
-            if f & (start.0 < n.0) {
-                Event::On(n)
-            } else {
-                Event::Never
-            }
-        }
-        Event::On(x) => {
+        None => { if f & (start.0 < n.0) { Some(n) } else { None } }
+        Some(x) => {
             if f & ((start.0 < n.0) & !((start.0 < x.0) & (x.0 <= n.0))) {
-                Event::On(n)
+                Some(n)
             } else {
-                Event::On(x)
+                Some(x)
             }
         }
     }
@@ -43,16 +40,14 @@ impl Burst {
     pub fn none() -> Burst
         ensures { result ≡ no_burst }
     {
-        let start = Clock(0);
-        let cut = Event::Never;
         Burst {
             live: false,
             auto: false,
             bank: 0,
             row: 0,
             column: 0,
-            start,
-            cut,
+            start: Clock(0),
+            cut: None,
             word: 0x30,
         }
     }
@@ -62,16 +57,14 @@ impl Burst {
     pub fn at(word: u16, n: Clock, addr: u16, column: u16, ba: u8, row: u16) -> Burst
         ensures { result ≡ burst_at word n addr column ba row }
     {
-        let auto = a10(addr);
-        let cut = Event::Never;
         Burst {
             live: true,
-            auto,
+            auto: a10(addr),
             bank: ba,
             row,
             column,
             start: n,
-            cut,
+            cut: None,
             word,
         }
     }
@@ -82,17 +75,14 @@ impl Burst {
     pub fn cut_if(self, f: bool, n: Clock) -> Burst
         ensures { result ≡ cut_if f n self }
     {
-        let own = self.cut;
-        let start = self.start;
-        let cut = cut_on(f & self.live, start, n, own);
         Burst {
             live: self.live,
             auto: self.auto,
             bank: self.bank,
             row: self.row,
             column: self.column,
-            start,
-            cut,
+            start: self.start,
+            cut: cut_on(f && self.live, self.start, n, self.cut),
             word: self.word,
         }
     }
@@ -101,17 +91,17 @@ impl Burst {
     pub fn cut_by(self, k: Command, addr: u16, ba: u8, n: Clock) -> Burst
         ensures { result ≡ cut_by k addr ba n self }
     {
-        let f = ends(k, addr, ba, self.bank);
-        self.cut_if(f, n)
+        self.cut_if(ends(k, addr, ba, self.bank), n)
     }
 
     // The burst, or none where it was registered before clock n. It is built anew where it stays, as in `cut_if`.
     pub fn unless_before(self, n: Clock) -> Burst
         ensures { result ≡ cond (ltb self.start.0 n.0) no_burst self }
     {
-        if self.start.0 < n.0 {
-            return Burst::none();
+        if self.start < n {
+            Burst::none()
+        } else {
+            self.cut_if(false, n)
         }
-        self.cut_if(false, n)
     }
 }

@@ -8,9 +8,10 @@ pub mod cuts;
 pub mod masking;
 pub mod quiet;
 
-use units::{Clock, Event};
+use units::Clock;
 
-// A READ's or WRITE's burst. It holds registration and cut, never a sum of them: a sum could pass 2^40.
+// A READ's or WRITE's burst. It holds registration and cut, never a sum of them: a sum could pass 2^40. `live` stands beside the rest, and
+// no Option around it: a state's words hold all nine numbers of a burst that is none (words/Words `burst_in`, `holds`).
 #[derive(Clone, Copy)]
 pub struct Burst {
     pub live: bool,
@@ -19,7 +20,7 @@ pub struct Burst {
     pub row: u16,
     pub column: u16,
     pub start: Clock,
-    pub cut: Event,
+    pub cut: Option<Clock>,
     pub word: u16,
 }
 

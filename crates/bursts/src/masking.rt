@@ -4,7 +4,7 @@ ghost use Rattle.std.specs.Prelude.{◌≡◌, [], ◌∷◌, get_or};
 ghost use Rattle.bursts.specs.Bus.{all_high, all_masks_high, masks_on, masks_after, two_before};
 
 use crate::Masks;
-use units::{Clock, Event};
+use units::Clock;
 
 // DQMB7 to DQMB0 all HIGH: "a skipped clock had COMMAND INHIBIT and all masks HIGH".
 pub const ALL_HIGH: u8 = 255;
@@ -13,24 +13,18 @@ pub const ALL_HIGH: u8 = 255;
 pub fn two_before(n: Clock) -> Clock
     ensures { result ≡ two_before n }
 {
-    if n.0 < 2 { Clock(0) } else { Clock(n.0 - 2) }
+    Clock(n.0.saturating_sub(2))
 }
 
 // The masks on clock m, where the last record stood on clock `last`: what is past it, or too far back, was skipped or
 // is not held.
 #[tactic(auto, unfolding(crate::specs::Bus::masks_on))]
-pub fn masks_on(last: Event, old: Masks, m: Clock) -> u8
+pub fn masks_on(last: Option<Clock>, old: Masks, m: Clock) -> u8
     ensures { result ≡ masks_on last old m }
 {
     match last {
-        Event::Never => ALL_HIGH,
-        Event::On(x) => {
-            if x.0 < m.0 {
-                ALL_HIGH
-            } else {
-                old.ago(x.0 - m.0)
-            }
-        }
+        Some(x) if m <= x => old.ago(x.0 - m.0),
+        _ => ALL_HIGH,
     }
 }
 
@@ -60,27 +54,26 @@ impl Masks {
 
     // What a record with these masks, after so many skipped clocks, leaves: its own, and those of the two clocks before
     // it.
+    #[tactic(auto, unfolding(crate::specs::Bus::masks_after))]
     pub fn after(self, skipped: u32, masks: u8) -> Masks
         ensures { result ≡ masks_after skipped masks self }
     {
-        if skipped == 0 {
-            return Masks {
+        match skipped {
+            0 => Masks {
                 first: masks,
                 second: self.first,
                 third: self.second,
-            };
-        }
-        if skipped == 1 {
-            return Masks {
+            },
+            1 => Masks {
                 first: masks,
                 second: ALL_HIGH,
                 third: self.first,
-            };
-        }
-        Masks {
-            first: masks,
-            second: ALL_HIGH,
-            third: ALL_HIGH,
+            },
+            _ => Masks {
+                first: masks,
+                second: ALL_HIGH,
+                third: ALL_HIGH,
+            },
         }
     }
 }

@@ -8,8 +8,7 @@ use crate::{Burst, Bus, Masks};
 pub fn no_reads() -> [Burst; 4]
     ensures { result ≡ no_reads }
 {
-    let none = Burst::none();
-    [none, none, none, none]
+    [Burst::none(); 4]
 }
 
 impl Bus {
@@ -17,13 +16,10 @@ impl Bus {
     pub fn quiet() -> Bus
         ensures { result ≡ quiet_bus }
     {
-        let write = Burst::none();
-        let reads = no_reads();
-        let masks = Masks::all_high();
         Bus {
-            write,
-            reads,
-            masks,
+            write: Burst::none(),
+            reads: no_reads(),
+            masks: Masks::all_high(),
         }
     }
 }

@@ -5,16 +5,16 @@ ghost use Rattle.bursts.specs.Bus.{write_after, bus_after, beat_on, bursts_finis
 use crate::reads::{reads_after, reads_beat, reads_clear, reads_finished};
 use bursts::masking::{ALL_HIGH, masks_on, two_before};
 use bursts::{Beat, Burst, Bus, Masks};
-use layout::{Command, Record, is};
+use layout::{Command, Record};
 use mode::write_length;
-use units::{Clock, Event};
+use units::Clock;
 
 // The WRITE burst after command k of record r on clock n, in mode `word`, of the open row: a WRITE's own, or the one
 // before it as the command leaves it.
 pub fn write_after(k: Command, r: Record, n: Clock, word: u16, row: u16, b: Burst) -> Burst
     ensures { result ≡ write_after k r n word row b }
 {
-    if is(k, Command::Write) {
+    if k == Command::Write {
         return Burst::at(word, n, r.addr, r.column, r.ba, row);
     }
     b.cut_by(k, r.addr, r.ba, n)
@@ -42,7 +42,7 @@ pub fn bus_after(k: Command, r: Record, n: Clock, word: u16, row: u16, u: Bus) -
 // the record's own masks, a READ's on those of two clocks before.
 #[tactic(auto, unfolding(bursts::specs::Bus::beat_on))]
 pub fn beat_on(
-    last: Event,
+    last: Option<Clock>,
     old: Masks,
     write: Burst,
     reads: [Burst; 4],
@@ -83,7 +83,7 @@ pub fn one_before(n: Clock) -> Clock
 // Number 20: no lane "would be driven on its clock, or is driven one clock before" (004's extra clock form). The masks of
 // both clocks come first: where they are all HIGH no READ drives a lane, and none is looked at.
 #[tactic(auto, unfolding(bursts::specs::Bus::bus_clear))]
-pub fn bus_clear(last: Event, old: Masks, reads: [Burst; 4], n: Clock) -> bool
+pub fn bus_clear(last: Option<Clock>, old: Masks, reads: [Burst; 4], n: Clock) -> bool
     ensures { result ≡ bus_clear last old reads n }
 {
     let here = masks_on(last, old, two_before(n));

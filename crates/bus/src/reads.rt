@@ -1,6 +1,6 @@
 // The four READ bursts that can still have beats (01, Beats). In a trace the latest stands first. They are walked by value.
-ghost use Rattle.std.specs.Prelude.{◌≡◌, true, not, ◌&&◌, ◌||◌, cond, ltb};
-ghost use Rattle.layout.specs.declared.Command.TheVariants.{Terminate, Precharge};
+ghost use Rattle.std.specs.Prelude.{◌≡◌, ◌∷◌, true, not, ◌&&◌, ◌||◌, cond, ltb};
+ghost use Rattle.layout.specs.declared.Command.TheVariants as Command;
 ghost use Rattle.layout.specs.Commands.{is, access};
 ghost use Rattle.mode.specs.Word.{length_of};
 ghost use Rattle.bursts.specs.Burst.{no_burst, reads_on, finished};
@@ -13,21 +13,25 @@ ghost use Rattle.bursts.specs.Bus.{
   cut_each,
   written_over,
   makes_room,
+  with_room,
   reads_after,
   reads_finished,
 };
 
 use bursts::masking::{masks_on, two_before};
 use bursts::{Beat, Burst, Masks};
-use layout::{Command, Record, is, is_access};
+use layout::{Command, Record};
 use mode::length_of;
-use units::{Clock, Event};
+use units::Clock;
 
 // The command can end a burst. NOP, COMMAND INHIBIT, ACTIVE, AUTO REFRESH and LOAD MODE end none.
 pub fn can_end(k: Command) -> bool
-    ensures { result ≡ (access k || is k Terminate || is k Precharge) }
+    ensures { result ≡ (access k || is k Command.Terminate || is k Command.Precharge) }
 {
-    is_access(k) | is(k, Command::Terminate) | is(k, Command::Precharge)
+    matches!(
+        k,
+        Command::Read | Command::Write | Command::Terminate | Command::Precharge
+    )
 }
 
 // Which of four READs was registered last, of those that run: a, b, c and d say which run, and one does; the numbers are the
@@ -50,7 +54,7 @@ fn latest(a: bool, b: bool, c: bool, d: bool, w: u64, x: u64, y: u64, z: u64) ->
 // The beat of the READ bursts on clock n: of those that run, the one registered last. Most records find none that runs, and
 // the masks of two clocks before are looked up only where one does.
 #[tactic(auto, unfolding(bursts::specs::Bus::masks_on))]
-pub fn reads_beat(last: Event, old: Masks, bs: [Burst; 4], n: Clock) -> Beat
+pub fn reads_beat(last: Option<Clock>, old: Masks, bs: [Burst; 4], n: Clock) -> Beat
     ensures { result ≡ reads_beat bs (masks_on last old (two_before n)) n }
 {
     let a = bs[0].reads_on(n);
@@ -140,10 +144,10 @@ pub fn reads_after(
 ) -> [Burst; 4]
     ensures { result ≡ reads_after k r n word row bs }
 {
-    if is(k, Command::Write) {
+    if k == Command::Write {
         return written_over(n, bs);
     }
-    if is(k, Command::Read) {
+    if k == Command::Read {
         let new = Burst::at(word, n, r.addr, r.column, r.ba, row);
         let a = bs[0].cut_if(true, n);
         let b = bs[1].cut_if(true, n);

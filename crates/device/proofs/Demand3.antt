@@ -1,4 +1,5 @@
 -- DEMAND 3 of the call of many records, with its page and beats: from the demand by records. Assumes nothing.
+use Rattle.std.specs.Prelude.{Ok, Err}
 use Prim.Native.Nat.{ℕ, zero, suc, ◌*◌, ◌/◌, ◌%◌, ◌≤◌}
 use native.Mathlib.Nat.{le_trans}
 use native.Mathlib.Omega.{arith}
@@ -14,11 +15,10 @@ use Rattle.speed.specs.Table.{table_fits}
 use Rattle.layout.specs.declared.Record.{Record}
 use Rattle.layout.specs.Bytes.{record_of, records_of}
 use Rattle.layout.proofs.Widths.{records_length}
+use Rattle.rules.specs.declared.Refusal.{Refusal}
 use Rattle.rules.specs.declared.State.{State}
 use Rattle.rules.specs.declared.Setup.{Setup}
-use Rattle.rules.specs.declared.Verdict.{Verdict}
-use Rattle.rules.specs.declared.Verdict.TheVariants.{Taken, Refused}
-use Rattle.rules.specs.Numbers.{first_broken}
+use Rattle.rules.specs.Numbers.{first_broken, Verdict}
 use Rattle.rules.specs.Parts.{state_module}
 use Rattle.rules.specs.OneRecord.{state_rules}
 use Rattle.rules.specs.After.{next}
@@ -42,7 +42,7 @@ lines_within u s [] = omega arith
 lines_within u s (r ∷ rs) =
     by_answer (λ a. length a.lines ≤ length (r ∷ rs)) u s r rs
     (λ p. omega (arith, lines_within u (next u s r) rs))
-    (λ n i p. omega arith)
+    (λ w p. omega arith)
 
 -- the first k of n records
 first_of : (m : Module) (k n : ℕ) (l : List ℕ) → k ≤ n → take k (records_of m n l) ≡ records_of m k l
@@ -67,12 +67,12 @@ module _ (u : Setup) (s : State) (bytes page beats : List ℕ) where
   seen = records_in s bytes
 
   -- a call that looks at its records leaves the page and the beats of the fold, and is clean only where the fold is
-  module _ (p : first_broken (records_rules u s (length bytes) (length page)) ≡ Taken) where
+  module _ (p : first_broken (records_rules u s (length bytes) (length page)) ≡ Ok tt) where
     record Called : Type 0 where
       page_left : (records_call u s bytes page beats).page ≡ (fold u s seen page beats).page
       beats_left : (records_call u s bytes page beats).beats ≡ (fold u s seen page beats).beats
-      if_clean : (records_call u s bytes page beats).ran.verdict ≡ Taken
-          → (leb (length bytes / 16) (room s) ≡ true) × ((run u s seen).verdict ≡ Taken)
+      if_clean : (records_call u s bytes page beats).ran.verdict ≡ Ok tt
+          → (leb (length bytes / 16) (room s) ≡ true) × ((run u s seen).verdict ≡ Ok tt)
 
     called : Called
     called = go (leb (length bytes / 16) (room s)) refl
@@ -80,9 +80,9 @@ module _ (u : Setup) (s : State) (bytes page beats : List ℕ) where
         count : (x : Bool) → leb (length bytes / 16) (room s) ≡ x → seen ≡ records_of (state_module s) (cond x (length bytes / 16) (room s)) bytes
         count x t = ap (λ (y : Bool). records_of (state_module s) (cond y (length bytes / 16) (room s)) bytes) t
 
-        never : (v : Verdict) (k : ℕ) → (above_number_max (ran v k)).verdict ≡ Taken → (leb (length bytes / 16) (room s) ≡ true) × ((run u s seen).verdict ≡ Taken)
-        never Taken k h = let z : ◌≡◌ {A = ℕ} 0 1 = cc in absurd (omega arith)
-        never (Refused n i) k h = let z : ◌≡◌ {A = ℕ} 0 1 = cc in absurd (omega arith)
+        never : (v : Verdict) (k : ℕ) → (above_number_max (ran v k)).verdict ≡ Ok tt → (leb (length bytes / 16) (room s) ≡ true) × ((run u s seen).verdict ≡ Ok tt)
+        never (Ok o) k h = let z : ◌≡◌ {A = ℕ} 0 1 = cc in absurd (omega arith)
+        never (Err w) k h = let z : ◌≡◌ {A = ℕ} 0 1 = cc in absurd (omega arith)
 
         go : (x : Bool) → leb (length bytes / 16) (room s) ≡ x → Called
         go true t =
@@ -102,12 +102,12 @@ module _ (u : Setup) (s : State) (bytes page beats : List ℕ) where
 
 -- how many records a call takes, by what it finds before the first
 module _ (u : Setup) (s : State) (bytes : List ℕ) (lent : ℕ) where
-  taken_some : first_broken (records_rules u s (length bytes) lent) ≡ Taken
+  taken_some : first_broken (records_rules u s (length bytes) lent) ≡ Ok tt
       → taken_in u s bytes lent ≡ length (run u s (records_in s bytes)).lines
   taken_some p = ap (λ v. length v.lines) (run_in u s bytes lent p)
 
-  taken_none : (n i : ℕ) → first_broken (records_rules u s (length bytes) lent) ≡ Refused n i → taken_in u s bytes lent ≡ 0
-  taken_none n i p = ap (λ v. length v.lines) (run_out u s bytes lent n i p)
+  taken_none : (w : Refusal) → first_broken (records_rules u s (length bytes) lent) ≡ Err w → taken_in u s bytes lent ≡ 0
+  taken_none w p = ap (λ v. length v.lines) (run_out u s bytes lent w p)
 
 -- no records leave page and beats
 module _ (u : Setup) (s : State) (page beats : List ℕ) where
@@ -117,11 +117,11 @@ module _ (u : Setup) (s : State) (page beats : List ℕ) where
     where
       go : (v : Verdict) → first_broken (records_rules u s 0 (length page)) ≡ v
           → ((records_call u s [] page beats).page ≡ page) × ((records_call u s [] page beats).beats ≡ beats)
-      go Taken p =
+      go (Ok o) p =
           let e = records_entered u s [] page beats p (le-leb (length {A = ℕ} [] / 16) (room s) (omega arith)) in
           (ap (λ (l : Left). l.page) e, ap (λ (l : Left). l.beats) e)
-      go (Refused n i) p =
-          let e = records_refused u s [] page beats n i p in
+      go (Err w) p =
+          let e = records_refused u s [] page beats w p in
           (ap (λ (l : Left). l.page) e, ap (λ (l : Left). l.beats) e)
 
 -- ── Demand 3 ──
@@ -143,14 +143,14 @@ module _ {t u : SpeedTable} (e : NowhereHarder t u) (ft : table_fits t ≡ true)
   part = take (16 * stop) bytes
 
   -- the same for either: where no number is above 2^41 it is the run
-  as_run : (v : Setup) → first_broken (records_rules v s (length bytes) (length page)) ≡ Taken → leb (length bytes / 16) (room s) ≡ true
+  as_run : (v : Setup) → first_broken (records_rules v s (length bytes) (length page)) ≡ Ok tt → leb (length bytes / 16) (room s) ≡ true
       → records_call v s bytes page beats ≡ from_run s rs page beats (run v s rs)
   as_run v p h =
       records_entered v s bytes page beats p h
       ∙ sym (ap (λ (y : Bool). fold v s (records_of (state_module s) (cond y (length bytes / 16) (room s)) bytes) page beats) h)
       ∙ fold_run v s rs page beats
 
-  module _ (p : first_broken (records_rules (setup t) s (length bytes) (length page)) ≡ Taken) where
+  module _ (p : first_broken (records_rules (setup t) s (length bytes) (length page)) ≡ Ok tt) where
     whole : length bytes ≡ 16 * (length bytes / 16)
     whole = omega (arith, (entry_of (setup t) s (length bytes) (length page) p).whole)
 
@@ -169,7 +169,7 @@ module _ {t u : SpeedTable} (e : NowhereHarder t u) (ft : table_fits t ≡ true)
     some : length part / 16 ≡ stop
     some = omega (arith, long)
 
-    part_enters : first_broken (records_rules (setup u) s (length part) (length page)) ≡ Taken
+    part_enters : first_broken (records_rules (setup u) s (length part) (length page)) ≡ Ok tt
     part_enters =
         let none : eqb (length part % 16) 0 ≡ true = eq-eqb (length part % 16) 0 (omega (arith, long)) in
         let all : eqb (length bytes % 16) 0 ≡ true = eq-eqb (length bytes % 16) 0 (entry_of (setup t) s (length bytes) (length page) p).whole in
@@ -181,7 +181,7 @@ module _ {t u : SpeedTable} (e : NowhereHarder t u) (ft : table_fits t ≡ true)
     -- what the easier call leaves of the records that the harder takes
     part_run : records_call (setup u) s part page beats
         ≡ from_run s (take stop rs) page beats
-        (record { verdict = Taken; reported = (run (setup t) s rs).reported; lines = (run (setup t) s rs).lines })
+        (record { verdict = Ok tt; reported = (run (setup t) s rs).reported; lines = (run (setup t) s rs).lines })
     part_run =
         records_entered (setup u) s part page beats part_enters (le-leb (length part / 16) (room s) (omega (arith, some, in_room)))
         ∙ ap (λ (k : ℕ). fold (setup u) s (records_of (state_module s) k part) page beats) some
@@ -214,19 +214,19 @@ module _ {t u : SpeedTable} (e : NowhereHarder t u) (ft : table_fits t ≡ true)
               as_run (setup u) q k.0 ∙ ap (from_run s rs page beats) (sym (f.clean k.1)) ∙ sym (as_run (setup t) p k.0);
         }
 
-  refused : (n i : ℕ) → first_broken (records_rules (setup t) s (length bytes) (length page)) ≡ Refused n i → Demand3 (setup t) (setup u) s bytes page beats
-  refused n i p =
+  refused : (w : Refusal) → first_broken (records_rules (setup t) s (length bytes) (length page)) ≡ Err w → Demand3 (setup t) (setup u) s bytes page beats
+  refused w p =
       let q = sym (alike (length bytes)) ∙ p in
-      let gone = records_refused (setup t) s bytes page beats n i p in
-      let none-t = taken_none (setup t) s bytes (length page) n i p in
-      let none-u = taken_none (setup u) s bytes (length page) n i q in
+      let gone = records_refused (setup t) s bytes page beats w p in
+      let none-t = taken_none (setup t) s bytes (length page) w p in
+      let none-u = taken_none (setup u) s bytes (length page) w q in
       record {
         never_earlier = rw (none-t, none-u) (omega arith);
         beats_agree = rw (none-t, gone) (none_left (setup u) s page beats).1;
         page_agrees = rw (none-t, gone) (none_left (setup u) s page beats).0;
         clean =
             λ h.
-            let x : ◌≡◌ {A = Verdict} (Refused n i) Taken = sym (ap (λ (l : Left). l.ran.verdict) gone) ∙ h in
+            let x : ◌≡◌ {A = Verdict} (Err w) (Ok tt) = sym (ap (λ (l : Left). l.ran.verdict) gone) ∙ h in
             let z : ◌≡◌ {A = ℕ} 0 1 = cc in
             absurd (omega arith);
       }
@@ -236,5 +236,5 @@ pub demand_3_holds : Demand3Holds
 demand_3_holds t u e ft fu s bytes page beats = go (first_broken (records_rules (setup t) s (length bytes) (length page))) refl
   where
     go : (v : Verdict) → first_broken (records_rules (setup t) s (length bytes) (length page)) ≡ v → Demand3 (setup t) (setup u) s bytes page beats
-    go Taken p = entered e ft fu s bytes page beats p
-    go (Refused n i) p = refused e ft fu s bytes page beats n i p
+    go (Ok o) p = entered e ft fu s bytes page beats p
+    go (Err w) p = refused e ft fu s bytes page beats w p

@@ -1,4 +1,5 @@
 -- One turn of the loop over records is one record of the fold. Assumes nothing.
+use Rattle.std.specs.Prelude.{Ok, Err}
 use Prim.Native.Nat.{ℕ, ◌+◌, ◌-◌, ◌*◌, ◌<◌}
 use native.Mathlib.Omega.{arith}
 use native.Mathlib.Numerals.{add-one}
@@ -15,12 +16,11 @@ use Rattle.layout.specs.Widths.{Widths, OnModule}
 use Rattle.layout.proofs.Widths.{record_fits, record_on}
 use Rattle.bursts.specs.declared.Beat.{Beat}
 use Rattle.page.specs.Store.{stored}
+use Rattle.rules.specs.declared.Refusal.{Refusal}
 use Rattle.rules.specs.declared.State.{State}
 use Rattle.rules.specs.declared.Setup.{Setup}
 use Rattle.rules.specs.declared.Core.{Core}
-use Rattle.rules.specs.declared.Verdict.{Verdict}
-use Rattle.rules.specs.declared.Verdict.TheVariants.{Taken, Refused}
-use Rattle.rules.specs.Numbers.{first_broken}
+use Rattle.rules.specs.Numbers.{first_broken, Verdict}
 use Rattle.rules.specs.Parts.{clock_of, core_module, state_module}
 use Rattle.rules.specs.Rules.{rules, found, ask}
 use Rattle.rules.specs.After.{core_from, core_after, next}
@@ -50,7 +50,7 @@ next_period : (u : Setup) (s : State) (r : Record) → (next u s r).core.period 
 unfolding next core_after core_from
 next_period u s r = refl
 
-pub able_next : (u : Setup) (s : State) (count : ℕ) (r : Record) → Able u s (count + 1) → Widths r → OnModule (state_module s) r → ask u s r ≡ Taken
+pub able_next : (u : Setup) (s : State) (count : ℕ) (r : Record) → Able u s (count + 1) → Widths r → OnModule (state_module s) r → ask u s r ≡ Ok tt
     → Able u (next u s r) count
 able_next u s count r a w o p =
     record {
@@ -105,7 +105,7 @@ module _ (bytes : List ℕ) (count k : ℕ) (more : k < count) where
         ∙ ap (λ (x : Record). went_by u s (x ∷ after) w₀ page beats) (sym (read ∙ ap (record_of m) same))
 
     -- a record that is taken
-    module _ (p : ask u s r ≡ Taken) {st : State} {w : Beat} (x : Settled u s r st w) where
+    module _ (p : ask u s r ≡ Ok tt) {st : State} {w : Beat} (x : Settled u s r st w) where
       pub goes_on : {n : Clock} {page' beats' : List ℕ} → n ≡ clock_of s.core r
           → page' ≡ stored (state_module s) s.core.bank s.core.row r.dq w page
           → beats' ≡ put_line s.core.number (record { clock = n; beat = w }) beats
@@ -125,6 +125,6 @@ module _ (bytes : List ℕ) (count k : ℕ) (more : k < count) where
           (able_next u s (count - (k + 1)) r (subst (λ (x : ℕ). Able u s x) c a) widths place p)
 
     -- one that is refused
-    pub stops : (n i : ℕ) → ask u s r ≡ Refused n i
-        → went_by u s (records_of m (count - k) (drop (16 * k) bytes)) w₀ page beats ≡ gone (went (Refused n i) s.core.number w₀ s) page beats
-    stops n i p = turn_at ∙ went_refused u s r after page beats w₀ n i p
+    pub stops : (w : Refusal) → ask u s r ≡ Err w
+        → went_by u s (records_of m (count - k) (drop (16 * k) bytes)) w₀ page beats ≡ gone (went (Err w) s.core.number w₀ s) page beats
+    stops w p = turn_at ∙ went_refused u s r after page beats w₀ w p

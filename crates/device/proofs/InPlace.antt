@@ -1,11 +1,11 @@
 -- What a record leaves, part by part, as the loop over records changes it in place. Assumes nothing.
+use Rattle.std.specs.Prelude.{Some}
 use Prim.Native.Nat.{ℕ, ◌+◌}
 use mathlib.Core.Path.{◌≡◌, refl, sym}
 use mathlib.Core.Bool.{Bool, false, true≢false, ◌||◌}
 use mathlib.Core.List.{List}
 use Rattle.units.specs.declared.Clock.{Clock}
 use Rattle.units.specs.declared.Ps.{Ps}
-use Rattle.units.specs.declared.Event.TheVariants.{On}
 use Rattle.units.specs.Time.{at}
 use Rattle.speed.specs.declared.SpeedTable.{SpeedTable}
 use Rattle.layout.specs.declared.Record.{Record}
@@ -130,7 +130,7 @@ module _ (u : Setup) (s : State) (r : Record) {k : Command} {n : Clock} {bus : B
       → one
       ≡ commanded k u.table s.core.period (burst_end k u.table s.core.period (word_in s.core.startup.register) n)
       (begun s.core.startup) r n (at s.core.period n) s.banks
-      → two ≡ mark_banks w n one → Settled u s r (state_of s.core (s.core.number + 1) (On n) startup bus two) w
+      → two ≡ mark_banks w n one → Settled u s r (state_of s.core (s.core.number + 1) (Some n) startup bus two) w
   unfolding next core_after core_from banks_after beat bus_after
   settled hk hn hb hs hw ho ht =
       let e : w ≡ own_beat s r = rw (hw, hb, hn, hk) in

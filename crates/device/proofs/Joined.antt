@@ -1,4 +1,5 @@
 -- RECORDS OF TWO SLICES IN TURN ARE THE RECORDS OF BOTH JOINED. Assumes nothing.
+use Rattle.std.specs.Prelude.{Ok, Err}
 use Prim.Native.Nat.{ℕ, zero, suc, ◌+◌, ◌*◌, ◌/◌, ◌%◌, ◌≤◌}
 use native.Mathlib.Omega.{arith}
 use native.Mathlib.Nat.{zero-add, suc-add}
@@ -15,12 +16,11 @@ use Rattle.layout.specs.declared.Record.{Record}
 use Rattle.layout.specs.Bytes.{record_of, records_of}
 use Rattle.bursts.specs.declared.Beat.{Beat}
 use Rattle.bursts.specs.declared.Beat.TheVariants.{Quiet}
+use Rattle.rules.specs.declared.Refusal.{Refusal}
 use Rattle.rules.specs.declared.State.{State}
 use Rattle.rules.specs.declared.Setup.{Setup}
-use Rattle.rules.specs.declared.Verdict.{Verdict}
-use Rattle.rules.specs.declared.Verdict.TheVariants.{Taken, Refused}
 use Rattle.rules.specs.Parts.{state_module}
-use Rattle.rules.specs.Numbers.{first_broken}
+use Rattle.rules.specs.Numbers.{first_broken, Verdict}
 use Rattle.rules.specs.Rules.{ask}
 use Rattle.rules.specs.After.{core_from, core_after, own_beat, next}
 use Rattle.rules.specs.Run.{line, run, state_left}
@@ -40,15 +40,15 @@ use Rattle.device.proofs.Ready.{Ready, ready_of, ready_state, ready_next}
 abbrev pub then_on : Setup → List Record → Gone → Gone
 then_on u qs g =
     elim g.went.verdict [
-      | Taken ↦ went_by u g.went.next qs g.went.beat g.page g.beats
-      | Refused n i ↦ g
+      | Ok x ↦ went_by u g.went.next qs g.went.beat g.page g.beats
+      | Err w ↦ g
     ]
 
-then_none : (u : Setup) (qs : List Record) (g : Gone) (n i : ℕ) → g.went.verdict ≡ Refused n i → then_on u qs g ≡ g
-then_none u qs g n i h =
+then_none : (u : Setup) (qs : List Record) (g : Gone) (w : Refusal) → g.went.verdict ≡ Err w → then_on u qs g ≡ g
+then_none u qs g w h =
     ap
     (λ (v : Verdict).
-    elim v [ Taken ↦ went_by u g.went.next qs g.went.beat g.page g.beats | Refused m k ↦ g ])
+    elim v [ Ok x ↦ went_by u g.went.next qs g.went.beat g.page g.beats | Err m ↦ g ])
     h
 
 pub went_join : (u : Setup) (s : State) (rs qs : List Record) (w : Beat) (page beats : List ℕ)
@@ -61,10 +61,10 @@ went_join u s (r ∷ rs) qs w page beats =
         → went_by u (next u s r) (rs ++ qs) (own_beat s r) (page_next s r page) (put_line s.core.number (line s r) beats)
         ≡ then_on u qs (went_by u (next u s r) rs (own_beat s r) (page_next s r page) (put_line s.core.number (line s r) beats))
         → went_by u s ((r ∷ rs) ++ qs) w page beats ≡ then_on u qs (went_by u s (r ∷ rs) w page beats)
-    go Taken p ih =
+    go (Ok o) p ih =
         went_taken u s r (rs ++ qs) page beats w p ∙ ih ∙ sym (ap (then_on u qs) (went_taken u s r rs page beats w p))
-    go (Refused n i) p ih =
-        went_refused u s r (rs ++ qs) page beats w n i p ∙ sym (ap (then_on u qs) (went_refused u s r rs page beats w n i p))
+    go (Err v) p ih =
+        went_refused u s r (rs ++ qs) page beats w v p ∙ sym (ap (then_on u qs) (went_refused u s r rs page beats w v p))
 
 -- ── The records of two slices ──
 
@@ -100,7 +100,7 @@ pub record Clean (u : Setup) (s : State) (j k : ℕ) (g : Gone) : Type 0 where
   pub length_kept : length g.page ≡ page_bytes (state_module s)
 
 clean : (u : Setup) (s : State) (j k : ℕ) (a : List ℕ) (w : Beat) (page beats : List ℕ) → Ready u s (longer j k) page
-    → (went_by u s (records_of (state_module s) j a) w page beats).went.verdict ≡ Taken
+    → (went_by u s (records_of (state_module s) j a) w page beats).went.verdict ≡ Ok tt
     → Clean u s j k (went_by u s (records_of (state_module s) j a) w page beats)
 unfolding records_of next core_after core_from
 clean u s zero k a w page beats e h =
@@ -116,11 +116,11 @@ clean u s (suc j) k a w page beats e h =
     rs = records_of (state_module s) j (drop 16 a)
 
     go : (v : Verdict) → ask u s r ≡ v
-        → (ask u s r ≡ Taken
-        → (went_by u (next u s r) rs (own_beat s r) (page_next s r page) (put_line s.core.number (line s r) beats)).went.verdict ≡ Taken
+        → (ask u s r ≡ Ok tt
+        → (went_by u (next u s r) rs (own_beat s r) (page_next s r page) (put_line s.core.number (line s r) beats)).went.verdict ≡ Ok tt
         → Clean u (next u s r) j k (went_by u (next u s r) rs (own_beat s r) (page_next s r page) (put_line s.core.number (line s r) beats)))
         → Clean u s (suc j) k (went_by u s (r ∷ rs) w page beats)
-    go Taken p ih =
+    go (Ok o) p ih =
         let q = went_taken u s r rs page beats w p in
         let c = ih p (sym (ap (λ (g : Gone). g.went.verdict) q) ∙ h) in
         subst (λ (g : Gone). Clean u s (suc j) k g) (sym q)
@@ -130,8 +130,8 @@ clean u s (suc j) k a w page beats e h =
           module_kept = c.module_kept;
           length_kept = c.length_kept;
         })
-    go (Refused n i) p ih =
-        let x : ◌≡◌ {A = Verdict} (Refused n i) Taken = sym (ap (λ (g : Gone). g.went.verdict) (went_refused u s r rs page beats w n i p)) ∙ h in
+    go (Err v) p ih =
+        let x : ◌≡◌ {A = Verdict} (Err v) (Ok tt) = sym (ap (λ (g : Gone). g.went.verdict) (went_refused u s r rs page beats w v p)) ∙ h in
         let z : ◌≡◌ {A = ℕ} 0 1 = cc in
         absurd (omega arith)
 
@@ -150,11 +150,11 @@ next_as u s rs w page beats = refl
 
 -- a call that looks at k whole records, none with a number above 2^41
 module _ (u : Setup) (s : State) (k : ℕ) (bytes page beats : List ℕ) (long : length bytes ≡ 16 * k) (room_for : s.core.number + k ≤ suc number_max)
-    (p : first_broken (state_rules u s (length page)) ≡ Taken) where
+    (p : first_broken (state_rules u s (length page)) ≡ Ok tt) where
   count : length bytes / 16 ≡ k
   count = omega (arith, long)
 
-  enters : first_broken (records_rules u s (length bytes) (length page)) ≡ Taken
+  enters : first_broken (records_rules u s (length bytes) (length page)) ≡ Ok tt
   enters = records_ladder u s (length bytes) (length page) (eq-eqb (length bytes % 16) 0 (omega (arith, long))) ∙ p
 
   few : leb (length bytes / 16) (room s) ≡ true
@@ -180,7 +180,7 @@ module _ (u : Setup) (s : State) (k : ℕ) (bytes page beats : List ℕ) (long :
 -- two whole slices: the first of j records, the second of one and k more, none with a number above 2^41
 module _ (u : Setup) (s : State) (j k : ℕ) (a b page beats : List ℕ) (first : length a ≡ 16 * j) (second : length b ≡ 16 * suc k)
     (room_for : s.core.number + j + suc k ≤ suc number_max)
-    (p : first_broken (state_rules u s (length page)) ≡ Taken) where
+    (p : first_broken (state_rules u s (length page)) ≡ Ok tt) where
   abbrev after : Left
   after = records_call u s a page beats
 
@@ -214,11 +214,11 @@ module _ (u : Setup) (s : State) (j k : ℕ) (a b page beats : List ℕ) (first 
   a_is = call_is u s j a page beats first (omega (arith, room_for)) p Quiet
 
   -- WHERE THE FIRST CALL REFUSES, BOTH JOINED ARE THE FIRST
-  pub joined_refused : (n i : ℕ) → after.ran.verdict ≡ Refused n i
+  pub joined_refused : (w : Refusal) → after.ran.verdict ≡ Err w
       → (records_call u s both page beats ≡ after) × (records_next u s both (length page) ≡ then)
-  joined_refused n i h =
-      let v : went_a.went.verdict ≡ Refused n i = sym (ap (λ (l : Left). l.ran.verdict) a_is) ∙ h in
-      let stay : went_both ≡ went_a = joined ∙ then_none u (records_of (state_module s) (suc k) b) went_a n i v in (
+  joined_refused w h =
+      let v : went_a.went.verdict ≡ Err w = sym (ap (λ (l : Left). l.ran.verdict) a_is) ∙ h in
+      let stay : went_both ≡ went_a = joined ∙ then_none u (records_of (state_module s) (suc k) b) went_a w v in (
         call_is u s (longer j (suc k)) both page beats total fits_both p Quiet ∙ ap folded stay ∙ sym a_is,
         next_is u s (longer j (suc k)) both page beats total fits_both p Quiet
             ∙ ap (λ (g : Gone). g.went.next) stay
@@ -226,11 +226,11 @@ module _ (u : Setup) (s : State) (j k : ℕ) (a b page beats : List ℕ) (first 
       )
 
   -- WHERE IT IS CLEAN, THEY ARE THE SECOND FROM THE STATE, PAGE AND BEATS THAT THE FIRST LEAVES
-  pub joined_clean : after.ran.verdict ≡ Taken
+  pub joined_clean : after.ran.verdict ≡ Ok tt
       → (records_call u s both page beats ≡ records_call u then b after.page after.beats)
       × (records_next u s both (length page) ≡ records_next u then b (length after.page))
   joined_clean h =
-      let v : went_a.went.verdict ≡ Taken = sym (ap (λ (l : Left). l.ran.verdict) a_is) ∙ h in
+      let v : went_a.went.verdict ≡ Ok tt = sym (ap (λ (l : Left). l.ran.verdict) a_is) ∙ h in
       let c = clean u s j (suc k) a Quiet page beats e v in
       let s1 = went_a.went.next in
       let at : then ≡ s1 = next_is u s j a page beats first (omega (arith, room_for)) p Quiet in

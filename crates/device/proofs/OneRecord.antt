@@ -1,4 +1,5 @@
 -- The engine on one record is asking and taking it. Assumes nothing.
+use Rattle.std.specs.Prelude.{Ok, Err}
 use Prim.Native.Nat.{ℕ, ◌/◌, ◌%◌}
 use native.Mathlib.Omega.{arith}
 use mathlib.Core.Path.{◌≡◌, refl, ap, sym, ◌∙◌}
@@ -12,14 +13,13 @@ use Rattle.units.specs.declared.Module.{Module}
 use Rattle.layout.specs.Bytes.{read_record, record_number, record_of, records_of}
 use Rattle.layout.proofs.ReadBack.{sixteen_pass}
 use Rattle.bursts.specs.declared.Beat.TheVariants.{Quiet}
+use Rattle.rules.specs.declared.Refusal.TheVariants.{WrongLength}
 use Rattle.rules.specs.declared.State.{State}
 use Rattle.rules.specs.declared.Setup.{Setup}
 use Rattle.rules.specs.declared.Answer.{Answer}
 use Rattle.rules.specs.declared.Ran.{Ran}
-use Rattle.rules.specs.declared.Verdict.{Verdict}
-use Rattle.rules.specs.declared.Verdict.TheVariants.{Taken, Refused}
 use Rattle.rules.specs.Parts.{state_module}
-use Rattle.rules.specs.Numbers.{first_broken, number_of, interval_of}
+use Rattle.rules.specs.Numbers.{first_broken, Verdict}
 use Rattle.rules.specs.Rules.{ask}
 use Rattle.rules.specs.Run.{Run, run, state_left, beat_left}
 use Rattle.rules.specs.OneRecord.{entry_rules, record_for, answer_of, found_of, ask_call, Took, took, take_call}
@@ -37,19 +37,19 @@ not_sixteen m bytes h = rw (ne_eqb (length bytes) 16 h)
 
 -- what asking answers of a verdict and the record that it reports
 abbrev pub told : State → Ran → Answer
-told s r = answer_of (number_of r.verdict) (interval_of r.verdict) (reported_by r.verdict r.reported s.core.number) Quiet
+told s r = answer_of r.verdict (reported_by r.verdict r.reported s.core.number) Quiet
 
 -- a slice that is not one record
 module _ (u : Setup) (s : State) (bytes page : List ℕ) (h : eqb (record_number (read_record (state_module s) bytes)) 0 ≡ false) where
-  wrong_out : first_broken (entry_rules u s bytes page) ≡ Refused 1 0
+  wrong_out : first_broken (entry_rules u s bytes page) ≡ Err WrongLength
   unfolding entry_rules
   wrong_out = rw h
 
-  pub ask_wrong : ask_call u s bytes page ≡ answer_of 1 0 0 Quiet
-  ask_wrong = asked_out u s bytes page 1 0 wrong_out
+  pub ask_wrong : ask_call u s bytes page ≡ answer_of (Err WrongLength) 0 Quiet
+  ask_wrong = asked_out u s bytes page WrongLength wrong_out
 
   pub take_wrong : take_call u s bytes page ≡ took Quiet s page
-  take_wrong = took_out u s bytes page 1 0 wrong_out
+  take_wrong = took_out u s bytes page WrongLength wrong_out
 
 -- one of 16 bytes
 module _ (u : Setup) (s : State) (bytes page : List ℕ) (sixteen : length bytes ≡ 16) where
@@ -61,7 +61,7 @@ module _ (u : Setup) (s : State) (bytes page : List ℕ) (sixteen : length bytes
       ∙ sym (rw (sixteen_pass (state_module s) bytes sixteen))
 
   -- the slice is one record, and its number is not above 2^41
-  module _ (p : first_broken (records_rules u s (length bytes) (length page)) ≡ Taken) where
+  module _ (p : first_broken (records_rules u s (length bytes) (length page)) ≡ Ok tt) where
     few : leb (length bytes / 16) (room s) ≡ true
     few = le-leb (length bytes / 16) (room s) (omega (arith, sixteen, (entry_of u s (length bytes) (length page) p).number))
 
@@ -93,15 +93,15 @@ module _ (u : Setup) (s : State) (bytes page : List ℕ) (sixteen : length bytes
   takes = go (first_broken (records_rules u s (length bytes) (length page))) refl
     where
       go : (v : Verdict) → first_broken (records_rules u s (length bytes) (length page)) ≡ v → taken_as ≡ take_call u s bytes page
-      go Taken p =
+      go (Ok x) p =
           (λ i.
           took (beat_left (run_one p i)) (state_left u s (in_one p i) (run_one p i)) (fold_one p page [] i).page)
           ∙ sym (took_entered u s bytes page (sym alike ∙ p))
-      go (Refused n k) p =
-          let e = run_out u s bytes (length page) n k p in
+      go (Err n) p =
+          let e = run_out u s bytes (length page) n p in
           (λ i.
-          took (beat_left (e i)) ((ap (state_left u s (records_in s bytes)) e ∙ state_same u s (records_in s bytes) (record { verdict = Refused n k; reported = 0; lines = [] }) refl) i) (lent_refused u s bytes (length page) page [] n k p i).page)
-          ∙ sym (took_out u s bytes page n k (sym alike ∙ p))
+          took (beat_left (e i)) ((ap (state_left u s (records_in s bytes)) e ∙ state_same u s (records_in s bytes) (record { verdict = Err n; reported = 0; lines = [] }) refl) i) (lent_refused u s bytes (length page) page [] n p i).page)
+          ∙ sym (took_out u s bytes page n (sym alike ∙ p))
 
   -- ASKING: the verdict of the engine, whatever is lent to it
   module _ (lent : List ℕ) where
@@ -114,9 +114,9 @@ module _ (u : Setup) (s : State) (bytes page : List ℕ) (sixteen : length bytes
 
         look : (v : Verdict) → ask u s (record_for s bytes) ≡ v
             → of_run (run u s (record_for s bytes ∷ [])) ≡ found_of (ask u s (record_for s bytes)) s.core.number
-        look Taken q = ap of_run (run_taken u s (record_for s bytes) [] q) ∙ sym (ap (λ v. found_of v s.core.number) q)
-        look (Refused n k) q = ap of_run (run_refused u s (record_for s bytes) [] n k q) ∙ sym (ap (λ v. found_of v s.core.number) q)
+        look (Ok x) q = ap of_run (run_taken u s (record_for s bytes) [] q) ∙ sym (ap (λ v. found_of v s.core.number) q)
+        look (Err n) q = ap of_run (run_refused u s (record_for s bytes) [] n q) ∙ sym (ap (λ v. found_of v s.core.number) q)
 
         go : (v : Verdict) → first_broken (records_rules u s (length bytes) (length page)) ≡ v → told s (records_lent u s bytes (length page) lent []).ran ≡ ask_call u s bytes page
-        go Taken p = ap (λ (l : Left). told s l.ran) (fold_one p lent []) ∙ look (ask u s (record_for s bytes)) refl ∙ sym (asked_entered u s bytes page (sym alike ∙ p))
-        go (Refused n k) p = ap (λ (l : Left). told s l.ran) (lent_refused u s bytes (length page) lent [] n k p) ∙ sym (asked_out u s bytes page n k (sym alike ∙ p))
+        go (Ok x) p = ap (λ (l : Left). told s l.ran) (fold_one p lent []) ∙ look (ask u s (record_for s bytes)) refl ∙ sym (asked_entered u s bytes page (sym alike ∙ p))
+        go (Err n) p = ap (λ (l : Left). told s l.ran) (lent_refused u s bytes (length page) lent [] n p) ∙ sym (asked_out u s bytes page n (sym alike ∙ p))

@@ -1,4 +1,5 @@
 -- A state from which records may be judged, and what it leaves for those after a taken one. Assumes nothing.
+use Rattle.std.specs.Prelude.{Ok}
 use Prim.Native.Nat.{ℕ, zero, suc, ◌+◌, ◌*◌, ◌/◌, ◌%◌, ◌≤◌}
 use native.Mathlib.Omega.{arith}
 use native.Mathlib.Numerals.{add-one}
@@ -21,7 +22,6 @@ use Rattle.bursts.specs.declared.Beat.TheVariants.{Quiet, Stores, Drives}
 use Rattle.page.specs.Store.{put_lanes, put_cells, stored}
 use Rattle.rules.specs.declared.State.{State}
 use Rattle.rules.specs.declared.Setup.{Setup}
-use Rattle.rules.specs.declared.Verdict.TheVariants.{Taken}
 use Rattle.rules.specs.Parts.{state_module}
 use Rattle.rules.specs.Numbers.{first_broken}
 use Rattle.rules.specs.Rules.{ask}
@@ -68,7 +68,7 @@ pub record Ready (u : Setup) (s : State) (count : ℕ) (page : List ℕ) : Type 
   pub lent : length page ≡ page_bytes (state_module s)
 
 -- a call that passes them is ready for as many records as have numbers up to 2^41
-pub ready_of : (u : Setup) (s : State) (count : ℕ) (page : List ℕ) → first_broken (state_rules u s (length page)) ≡ Taken
+pub ready_of : (u : Setup) (s : State) (count : ℕ) (page : List ℕ) → first_broken (state_rules u s (length page)) ≡ Ok tt
     → s.core.number + count ≤ suc number_max → Ready u s count page
 unfolding state_rules
 ready_of u s count page p most =
@@ -88,20 +88,20 @@ ready_of u s count page p most =
     }
 
 -- 3, 4, 6, 7 and 25 pass
-pub ready_state : (u : Setup) (s : State) (count : ℕ) (page : List ℕ) → Ready u s (suc count) page → first_broken (state_rules u s (length page)) ≡ Taken
+pub ready_state : (u : Setup) (s : State) (count : ℕ) (page : List ℕ) → Ready u s (suc count) page → first_broken (state_rules u s (length page)) ≡ Ok tt
 unfolding state_rules
 ready_state u s count page e =
     rw (e.period, e.grade, e.table, eq-eqb (length page) (page_bytes (state_module s)) e.lent, fits_admitted s (e.able.state (omega arith)))
 
 -- and 1
 pub ready_entered : (u : Setup) (s : State) (count : ℕ) (bytes page : List ℕ) → Ready u s (suc count) page → length bytes ≡ 16
-    → first_broken (entry_rules u s bytes page) ≡ Taken
+    → first_broken (entry_rules u s bytes page) ≡ Ok tt
 unfolding entry_rules
 ready_entered u s count bytes page e h = rw (sixteen_pass (state_module s) bytes h) (ready_state u s count page e)
 
 -- a taken record leaves the same for one record less
 module _ (u : Setup) (s : State) (k : ℕ) (r : Record) (page : List ℕ) where
-  pub ready_after : Ready u s (suc k) page → Widths r → OnModule (state_module s) r → ask u s r ≡ Taken → Ready u (next u s r) k (page_next s r page)
+  pub ready_after : Ready u s (suc k) page → Widths r → OnModule (state_module s) r → ask u s r ≡ Ok tt → Ready u (next u s r) k (page_next s r page)
   unfolding next core_after core_from
   ready_after e w o p =
       record {
@@ -112,7 +112,7 @@ module _ (u : Setup) (s : State) (k : ℕ) (r : Record) (page : List ℕ) where
         lent = stored_length (state_module s) s.core.bank s.core.row r.dq (own_beat s r) page ∙ e.lent;
       }
 
-pub ready_next : (u : Setup) (s : State) (k : ℕ) (bytes page : List ℕ) → Ready u s (suc k) page → ask u s (record_for s bytes) ≡ Taken
+pub ready_next : (u : Setup) (s : State) (k : ℕ) (bytes page : List ℕ) → Ready u s (suc k) page → ask u s (record_for s bytes) ≡ Ok tt
     → Ready u (next u s (record_for s bytes)) k (page_next s (record_for s bytes) page)
 ready_next u s k bytes page e p =
     ready_after u s k (record_for s bytes) page e (record_fits (state_module s) bytes) (record_on (state_module s) bytes) p

@@ -1,4 +1,5 @@
 -- The call that judges many records, by what it finds before the first. Assumes nothing.
+use Rattle.std.specs.Prelude.{Ok, Err}
 use Prim.Native.Nat.{ℕ, zero, suc, ◌+◌, ◌-◌, ◌*◌, ◌/◌, ◌%◌, ◌≤◌, ◌<◌}
 use native.Mathlib.Omega.{arith}
 use native.Mathlib.Nat.{zero-add, suc-add}
@@ -13,15 +14,14 @@ use Rattle.units.specs.declared.Module.{Module}
 use Rattle.speed.proofs.Bounds.{bounds}
 use Rattle.layout.specs.Bytes.{record_of, records_of}
 use Rattle.layout.specs.declared.Record.{Record}
+use Rattle.rules.specs.declared.Refusal.{Refusal}
 use Rattle.rules.specs.declared.State.{State}
 use Rattle.rules.specs.declared.Setup.{Setup}
-use Rattle.rules.specs.declared.Verdict.{Verdict}
-use Rattle.rules.specs.declared.Verdict.TheVariants.{Taken, Refused}
 use Rattle.rules.specs.declared.Ran.{Ran}
 use Rattle.bursts.specs.declared.Beat.{Beat}
 use Rattle.bursts.specs.declared.Beat.TheVariants.{Quiet}
 use Rattle.rules.specs.Parts.{state_module}
-use Rattle.rules.specs.Numbers.{first_broken}
+use Rattle.rules.specs.Numbers.{first_broken, Verdict}
 use Rattle.rules.specs.Fits.{number_max}
 use Rattle.rules.specs.OneRecord.{state_rules}
 use Rattle.rules.specs.Calls.{Able}
@@ -91,7 +91,7 @@ pub record Entry (u : Setup) (s : State) (bytes : ℕ) : Type 0 where
   pub number : s.core.number ≤ number_max
   pub able : Able u s (at_most (bytes / 16) (room s))
 
-pub entry_of : (u : Setup) (s : State) (bytes lent : ℕ) → first_broken (records_rules u s bytes lent) ≡ Taken → Entry u s bytes
+pub entry_of : (u : Setup) (s : State) (bytes lent : ℕ) → first_broken (records_rules u s bytes lent) ≡ Ok tt → Entry u s bytes
 unfolding records_rules state_rules
 entry_of u s bytes lent p =
     let first = kept 1 0 (records_rules u s bytes lent) p in
@@ -134,29 +134,29 @@ pub above_left : (w : Went) → (left_of (above_max w) ≡ above_number_max (lef
 above_left w = go w.verdict refl
   where
     go : (v : Verdict) → w.verdict ≡ v → (left_of (above_max w) ≡ above_number_max (left_of w)) × ((above_max w).next ≡ w.next) × ((above_max w).beat ≡ w.beat)
-    go Taken p = (rw (p, above_max, above_number_max), rw (p, above_max), rw (p, above_max))
-    go (Refused n i) p = (rw (p, above_max, above_number_max), rw (p, above_max), rw (p, above_max))
+    go (Ok x) p = (rw (p, above_max, above_number_max), rw (p, above_max), rw (p, above_max))
+    go (Err v) p = (rw (p, above_max, above_number_max), rw (p, above_max), rw (p, above_max))
 
 -- ── The call ──
 
 module _ (u : Setup) (s : State) (bytes : List ℕ) (lent : ℕ) where
   -- the run behind it
-  pub run_out : (n i : ℕ) → first_broken (records_rules u s (length bytes) lent) ≡ Refused n i
-      → call_run u s bytes lent ≡ record { verdict = Refused n i; reported = 0; lines = [] }
+  pub run_out : (w : Refusal) → first_broken (records_rules u s (length bytes) lent) ≡ Err w
+      → call_run u s bytes lent ≡ record { verdict = Err w; reported = 0; lines = [] }
   unfolding call_run
-  run_out n i p = rw (p, call_run)
+  run_out w p = rw (p, call_run)
 
-  pub run_in : first_broken (records_rules u s (length bytes) lent) ≡ Taken → call_run u s bytes lent ≡ run u s (records_in s bytes)
+  pub run_in : first_broken (records_rules u s (length bytes) lent) ≡ Ok tt → call_run u s bytes lent ≡ run u s (records_in s bytes)
   unfolding call_run
   run_in p = rw (p, call_run)
 
   module _ (page beats : List ℕ) where
-    pub lent_refused : (n i : ℕ) → first_broken (records_rules u s (length bytes) lent) ≡ Refused n i
-        → records_lent u s bytes lent page beats ≡ left (ran (Refused n i) 0) page beats
+    pub lent_refused : (w : Refusal) → first_broken (records_rules u s (length bytes) lent) ≡ Err w
+        → records_lent u s bytes lent page beats ≡ left (ran (Err w) 0) page beats
     unfolding records_lent
-    lent_refused n i p = rw (p, records_lent)
+    lent_refused w p = rw (p, records_lent)
 
-    module _ (p : first_broken (records_rules u s (length bytes) lent) ≡ Taken) where
+    module _ (p : first_broken (records_rules u s (length bytes) lent) ≡ Ok tt) where
       -- where no record's number is above 2^41
       pub lent_entered : leb (length bytes / 16) (room s) ≡ true
           → records_lent u s bytes lent page beats ≡ fold u s (records_of (state_module s) (length bytes / 16) bytes) page beats
@@ -247,27 +247,27 @@ module _ (u : Setup) (s : State) (bytes : List ℕ) (lent : ℕ) where
             some_last = ap (λ (y : Went). y.beat) past ∙ (above_left w).2 ∙ last_left
 
 -- a call that looks at no record leaves its state, and has no beat
-module _ (u : Setup) (s : State) (bytes : List ℕ) (lent n i : ℕ) (p : first_broken (records_rules u s (length bytes) lent) ≡ Refused n i) where
+module _ (u : Setup) (s : State) (bytes : List ℕ) (lent : ℕ) (w : Refusal) (p : first_broken (records_rules u s (length bytes) lent) ≡ Err w) where
   abbrev none : Run
-  none = record { verdict = Refused n i; reported = 0; lines = [] }
+  none = record { verdict = Err w; reported = 0; lines = [] }
 
   pub next_out : s ≡ records_next u s bytes lent
   next_out =
-      sym (ap (state_left u s (records_in s bytes)) (run_out u s bytes lent n i p) ∙ state_same u s (records_in s bytes) none refl)
+      sym (ap (state_left u s (records_in s bytes)) (run_out u s bytes lent w p) ∙ state_same u s (records_in s bytes) none refl)
 
   pub beat_out : ◌≡◌ {A = Beat} Quiet (beat_left (call_run u s bytes lent))
-  beat_out = sym (ap beat_left (run_out u s bytes lent n i p))
+  beat_out = sym (ap beat_left (run_out u s bytes lent w p))
 
 -- the same of a call that lends the page for which number 7 is asked
 module _ (u : Setup) (s : State) (bytes page beats : List ℕ) where
-  pub records_refused : (n i : ℕ) → first_broken (records_rules u s (length bytes) (length page)) ≡ Refused n i
-      → records_call u s bytes page beats ≡ left (ran (Refused n i) 0) page beats
+  pub records_refused : (w : Refusal) → first_broken (records_rules u s (length bytes) (length page)) ≡ Err w
+      → records_call u s bytes page beats ≡ left (ran (Err w) 0) page beats
   records_refused = lent_refused u s bytes (length page) page beats
 
-  pub records_entered : first_broken (records_rules u s (length bytes) (length page)) ≡ Taken → leb (length bytes / 16) (room s) ≡ true
+  pub records_entered : first_broken (records_rules u s (length bytes) (length page)) ≡ Ok tt → leb (length bytes / 16) (room s) ≡ true
       → records_call u s bytes page beats ≡ fold u s (records_of (state_module s) (length bytes / 16) bytes) page beats
   records_entered = lent_entered u s bytes (length page) page beats
 
-  pub records_past : first_broken (records_rules u s (length bytes) (length page)) ≡ Taken → leb (length bytes / 16) (room s) ≡ false
+  pub records_past : first_broken (records_rules u s (length bytes) (length page)) ≡ Ok tt → leb (length bytes / 16) (room s) ≡ false
       → records_call u s bytes page beats ≡ past_room (fold u s (records_of (state_module s) (room s) bytes) page beats)
   records_past = lent_past u s bytes (length page) page beats

@@ -1,11 +1,11 @@
 -- What the engine leaves of records in turn: verdict, last beat and state, with page and beats lent. Definitions only.
-use Rattle.std.specs.Prelude.{ℕ, List}
+use Rattle.rules.specs.declared.Refusal.TheVariants.{UnfitState}
+use Rattle.rules.specs.Numbers.{Verdict}
+use Rattle.std.specs.Prelude.{ℕ, List, Ok, Err}
 use Rattle.layout.specs.declared.Record.{Record}
 use Rattle.bursts.specs.declared.Beat.{Beat}
 use Rattle.rules.specs.declared.State.{State}
 use Rattle.rules.specs.declared.Setup.{Setup}
-use Rattle.rules.specs.declared.Verdict.{Verdict}
-use Rattle.rules.specs.declared.Verdict.TheVariants.{Taken, Refused}
 use Rattle.rules.specs.Run.{Run, run, page_left, state_left, last_beat}
 use Rattle.rules.specs.Report.{lines_into}
 use Rattle.device.specs.declared.Went.{Went}
@@ -35,10 +35,10 @@ went_by u s rs beat page beats = run_left u s rs beat page beats (run u s rs)
 abbrev pub above_max : Went → Went
 above_max w =
     elim w.verdict [
-      | Taken ↦ went (Refused 25 0) 0 w.beat w.next
-      | Refused n i ↦ went (Refused n i) w.reported w.beat w.next
+      | Ok x ↦ went (Err UnfitState) 0 w.beat w.next
+      | Err v ↦ went (Err v) w.reported w.beat w.next
     ]
 
 -- "a taken record 0 and its own number"; a refused one what was found
 abbrev pub reported_by : Verdict → ℕ → ℕ → ℕ
-reported_by v reported own = elim v [ Taken ↦ own | Refused n i ↦ reported ]
+reported_by v reported own = elim v [ Ok x ↦ own | Err w ↦ reported ]

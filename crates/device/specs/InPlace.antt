@@ -1,7 +1,7 @@
 -- The state by its parts, as the loop over records holds it. Definitions only.
-use Rattle.std.specs.Prelude.{ℕ, cond, List, leb, length}
+use Rattle.units.specs.declared.Clock.{Clock}
+use Rattle.std.specs.Prelude.{ℕ, cond, List, leb, length, Option}
 use Rattle.layout.specs.Bytes.{word_at}
-use Rattle.units.specs.declared.Event.{Event}
 use Rattle.bursts.specs.declared.Bus.{Bus}
 use Rattle.rules.specs.declared.StartUp.{StartUp}
 use Rattle.rules.specs.declared.Bank.{Bank}
@@ -17,7 +17,7 @@ abbrev pub whole : Core → List Bank → State
 whole c banks = record { core = c; banks = banks }
 
 -- these parts, with period, watched bank and row of c
-abbrev pub core_of : Core → ℕ → Event → StartUp → Bus → Core
+abbrev pub core_of : Core → ℕ → Option Clock → StartUp → Bus → Core
 core_of c number last startup bus =
     record {
       period = c.period;
@@ -30,5 +30,5 @@ core_of c number last startup bus =
       bus = bus;
     }
 
-abbrev pub state_of : Core → ℕ → Event → StartUp → Bus → List Bank → State
+abbrev pub state_of : Core → ℕ → Option Clock → StartUp → Bus → List Bank → State
 state_of c number last startup bus banks = record { core = core_of c number last startup bus; banks = banks }

@@ -15,10 +15,12 @@ ghost use Rattle.device.specs.Engine.{went, gone, went_by, above_max};
 use crate::{Went, Words, reporting};
 use bursts::{Beat, Bus};
 use bus::{databus, reads};
+use layout::Command;
 use packed::inplace;
-use rules::{Bank, Core, NUMBER_MAX, Setup, StartUp, State, Verdict, clocks};
+use rules::timing::Timing;
+use rules::{Bank, Core, NUMBER_MAX, Refusal, Setup, StartUp, State, clocks};
 use taking::leaving;
-use units::{Clock, Event, Module};
+use units::{Clock, Module};
 
 // The words of the record at the start of `bytes`; with under 16 bytes there is none, and zeros stand for them.
 #[tactic(auto, unfolding(crate::specs::InPlace::words_ahead))]
@@ -46,19 +48,15 @@ fn words_at(bytes: &[u8], j: usize) -> Words
 }
 
 // All but the banks; period, watched bank and row stay as they are in c.
-fn core_of(c: Core, number: u64, last: Event, startup: StartUp, bus: Bus) -> Core
+fn core_of(c: Core, number: u64, last: Option<Clock>, startup: StartUp, bus: Bus) -> Core
     ensures { result ≡ core_of c number last startup bus }
 {
-    let period = c.period;
     Core {
-        period,
-        grade: c.grade,
-        bank: c.bank,
-        row: c.row,
         number,
         last,
         startup,
         bus,
+        ..c
     }
 }
 
@@ -76,17 +74,17 @@ fn report(beats: &mut [u64], k: u64, beat: Beat, n: Clock)
 }
 
 // What the engine leaves where it holds this core and these banks.
-fn went(verdict: Verdict, beat: Beat, core: Core, held: &[u64; 32]) -> Went
+fn went(verdict: Result<(), Refusal>, beat: Beat, core: Core, held: &[u64; 32]) -> Went
     ensures { result ≡ went verdict core.number beat (whole core (banks_in held.now)) }
 {
-    let banks = inplace::banks(held);
-    let reported = core.number;
-    let next = State { core, banks };
     Went {
         verdict,
-        reported,
+        reported: core.number,
         beat,
-        next,
+        next: State {
+            core,
+            banks: inplace::banks(held),
+        },
     }
 }
 
@@ -106,6 +104,10 @@ fn fold(
     ensures { gone result page.new beats.new ≡ went_by u (whole core banks) (records_of (core_module core) count bytes.now) Beat.Quiet page.old beats.old }
 {
     let t = u.table;
+    let timing = Timing {
+        table: t,
+        period: core.period,
+    };
     let m = Module::of_grade(core.grade);
     let mut number = core.number;
     let mut last = core.last;
@@ -114,22 +116,21 @@ fn fold(
     let mut held = inplace::hold(banks);
     let mut words = words_at(bytes, 0);
     let mut own = Beat::Quiet;
-    let mut j = 0;
-    while j < count {
+    for j in 0..count {
         let r = layout::record_from(m, words.first, words.second);
         let n = clocks::clock_of(last, r.skipped);
         let c = core_of(core, number, last, startup, bus);
         let v = inplace::ask(t, c, &held, r, n);
-        let Verdict::Taken = v else {
+        let Ok(()) = v else {
             return went(v, own, c, &held);
         };
-        let k = layout::command_of(r.code);
+        let k = Command::from(r.code);
         let masks = bus.masks;
         if reads::can_end(k) {
             bus = inplace::move_bus(k, r, n, startup, &held, bus);
         }
-        if layout::is_executable(k) {
-            inplace::move_banks(k, t, core.period, startup, r, n, &mut held);
+        if k.is_executable() {
+            inplace::move_banks(k, timing, startup, r, n, &mut held);
             startup = leaving::startup_after(k, r, n, startup);
         }
         bus.masks = masks.after(r.skipped, r.masks);
@@ -140,24 +141,22 @@ fn fold(
         page::stored(m, core.bank, core.row, r.dq, beat, page);
         report(beats, number, beat, n);
         own = beat;
-        last = Event::On(n);
+        last = Some(n);
         number += 1;
-        j += 1;
-        words = words_at(bytes, j);
+        words = words_at(bytes, j + 1);
     }
     let c = core_of(core, number, last, startup, bus);
-    went(Verdict::Taken, own, c, &held)
+    went(Ok(()), own, c, &held)
 }
 
 // Refused before the first record.
-fn unmoved(v: Verdict, s: State) -> Went
+fn unmoved(v: Result<(), Refusal>, s: State) -> Went
     ensures { result ≡ went v 0 Beat.Quiet s }
 {
-    let beat = Beat::Quiet;
     Went {
         verdict: v,
         reported: 0,
-        beat,
+        beat: Beat::Quiet,
         next: s,
     }
 }
@@ -178,17 +177,13 @@ fn before_max(count: usize, number: u64) -> usize
 fn above_max(w: Went) -> Went
     ensures { result ≡ above_max w }
 {
-    let v = w.verdict;
-    let beat = w.beat;
-    let next = w.next;
-    let Verdict::Taken = v else {
+    let Ok(()) = w.verdict else {
         return w;
     };
     Went {
-        verdict: Verdict::refused(25),
+        verdict: Err(Refusal::UnfitState),
         reported: 0,
-        beat,
-        next,
+        ..w
     }
 }
 
@@ -207,14 +202,11 @@ pub fn judge(
 {
     let count = bytes.len() / 16;
     let v = admitting::records_verdict(u, s, bytes.len(), lent);
-    let Verdict::Taken = v else {
+    let Ok(()) = v else {
         return unmoved(v, s);
     };
-    let core = s.core;
-    let banks = s.banks;
-    let some = before_max(count, core.number);
-    let end = 16 * some;
-    let w = fold(u, core, banks, &bytes[0..end], some, page, beats);
+    let some = before_max(count, s.core.number);
+    let w = fold(u, s.core, s.banks, &bytes[..16 * some], some, page, beats);
     if some < count {
         return above_max(w);
     }

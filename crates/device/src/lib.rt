@@ -2,7 +2,7 @@
 #![tactic(auto)]
 
 use bursts::Beat;
-use rules::{Answer, Ran, State, Verdict};
+use rules::{Answer, Ran, Refusal, State};
 
 mod engine;
 mod many;
@@ -38,7 +38,7 @@ pub struct Judged {
 // state after it.
 #[derive(Clone, Copy)]
 pub struct Went {
-    pub verdict: Verdict,
+    pub verdict: Result<(), Refusal>,
     pub reported: u64,
     pub beat: Beat,
     pub next: State,

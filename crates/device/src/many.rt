@@ -5,42 +5,38 @@ ghost use Rattle.rules.specs.Report.{left, records_call, records_next};
 
 use crate::{Device, Judged, engine};
 use bursts::Bus;
-use rules::{Bank, Core, Ran, Refreshes, Register, Setup, StartUp, State, Status};
-use units::{Event, Ps};
+use rules::{Bank, Core, Ran, Refreshes, Setup, StartUp, State, Status};
+use units::Ps;
 
 impl Device {
     // Before the first record: the trace's period and grade, and the watched bank and row.
     pub fn start(period: Ps, grade: u8, bank: u8, row: u16) -> Device
         ensures { result.0 ≡ start period grade bank row }
     {
-        let status = Status::NotStarted;
-        let never = Event::Never;
-        let b = Bank {
-            status,
-            active: never,
-            stored: never,
+        let bank_before = Bank {
+            status: Status::NotStarted,
+            active: None,
+            stored: None,
         };
-        let refreshes = Refreshes::None;
-        let register = Register::Unloaded;
         let startup = StartUp {
-            allclosed: never,
-            refreshes,
-            register,
+            allclosed: None,
+            refreshes: Refreshes::Zero,
+            register: None,
         };
-        let bus = Bus::quiet();
         let core = Core {
             period,
             grade,
             bank,
             row,
             number: 0,
-            last: never,
+            last: None,
             startup,
-            bus,
+            bus: Bus::quiet(),
         };
-        let banks = [b, b, b, b];
-        let state = State { core, banks };
-        Device(state)
+        Device(State {
+            core,
+            banks: [bank_before; 4],
+        })
     }
 
     // The records of a lent slice from this state, each as the one-record call would judge it. What the state may hold is
@@ -51,13 +47,12 @@ impl Device {
     {
         let lent = page.len();
         let w = engine::judge(setup, self.0, bytes, lent, page, beats);
-        let verdict = w.verdict;
-        let state = w.next;
-        let ran = Ran {
-            verdict,
-            reported: w.reported,
-        };
-        let next = Device(state);
-        Judged { ran, next }
+        Judged {
+            ran: Ran {
+                verdict: w.verdict,
+                reported: w.reported,
+            },
+            next: Device(w.next),
+        }
     }
 }

@@ -1,31 +1,19 @@
 // One record: asked, taken, or asked and then taken.
 ghost use Rattle.std.specs.Prelude.{◌≡◌};
-ghost use Rattle.rules.specs.Numbers.{number_of, interval_of};
 ghost use Rattle.rules.specs.OneRecord.{answer_of, ask_call, took, take_call, stepped, step};
 ghost use Rattle.device.specs.Engine.{reported_by};
 
 use crate::{Device, Outcome, Took, engine};
 use bursts::Beat;
-use rules::{Answer, Setup, Verdict};
+use rules::{Answer, Refusal, Setup};
 
 // "Number 0 and its own number" where the record is taken; else what was found.
-fn answer(v: Verdict, reported: u64, own: u64, beat: Beat) -> Answer
-    ensures { result ≡ answer_of (number_of v) (interval_of v) (reported_by v reported own) beat }
+fn answer(v: Result<(), Refusal>, reported: u64, own: u64, beat: Beat) -> Answer
+    ensures { result ≡ answer_of v (reported_by v reported own) beat }
 {
-    let number = v.number();
-    let interval = v.interval();
-    let Verdict::Taken = v else {
-        return Answer {
-            number,
-            interval,
-            reported,
-            beat,
-        };
-    };
     Answer {
-        number,
-        interval,
-        reported: own,
+        verdict: v,
+        reported: if v.is_ok() { own } else { reported },
         beat,
     }
 }
@@ -36,13 +24,10 @@ impl Device {
     pub fn ask(self, setup: Setup, bytes: &[u8], page: &[u8]) -> Answer
         ensures { result ≡ ask_call setup self.0 bytes.now page.now }
     {
-        let quiet = Beat::Quiet;
         if bytes.len() != 16 {
-            let wrong = Verdict::refused(1);
-            return answer(wrong, 0, 0, quiet);
+            return answer(Err(Refusal::WrongLength), 0, 0, Beat::Quiet);
         }
         let s = self.0;
-        let core = s.core;
         let mut no_page = [0u8; 1];
         let mut no_beats = [0u64; 1];
         let w = engine::judge(
@@ -53,8 +38,7 @@ impl Device {
             &mut no_page[0..0],
             &mut no_beats[0..0],
         );
-        let v = w.verdict;
-        answer(v, w.reported, core.number, quiet)
+        answer(w.verdict, w.reported, s.core.number, Beat::Quiet)
     }
 
     // Takes a record: the beat on its clock and the next state. A record that asking refuses, for any reason, leaves state and
@@ -63,16 +47,18 @@ impl Device {
         ensures { took result.beat result.next.0 page.new ≡ take_call setup self.0 bytes.now page.old }
     {
         if bytes.len() != 16 {
-            let beat = Beat::Quiet;
-            return Took { beat, next: self };
+            return Took {
+                beat: Beat::Quiet,
+                next: self,
+            };
         }
         let lent = page.len();
         let mut no_beats = [0u64; 1];
         let w = engine::judge(setup, self.0, bytes, lent, page, &mut no_beats[0..0]);
-        let beat = w.beat;
-        let state = w.next;
-        let next = Device(state);
-        Took { beat, next }
+        Took {
+            beat: w.beat,
+            next: Device(w.next),
+        }
     }
 
     // Ask, then take.
@@ -81,14 +67,12 @@ impl Device {
     {
         let asked = self.ask(setup, bytes, page);
         let took = self.take(setup, bytes, page);
-        let beat = took.beat;
-        let next = took.next;
-        let answer = Answer {
-            number: asked.number,
-            interval: asked.interval,
-            reported: asked.reported,
-            beat,
-        };
-        Outcome { answer, next }
+        Outcome {
+            answer: Answer {
+                beat: took.beat,
+                ..asked
+            },
+            next: took.next,
+        }
     }
 }

@@ -1,158 +1,168 @@
 // The times that a refused record involves: what was asked, since which event, and until when.
-use crate::events;
-use crate::events::Since;
+use crate::broken::Step;
+use crate::events::{Since, Sought, Unfinished};
+use crate::figures::Ns;
 use crate::walking::Halt;
-use layout::{Command, Record};
-use rules::{StartUp, steps};
-use speed::SpeedTable;
+use layout::Command;
+use rules::{Interval, Refusal};
+use std::fmt;
 use units::time::lasts;
-use units::{Clock, Event, Ps};
+use units::{Clock, Ps};
 
-// What was asked: 1 at least so much, 2 at most, 0 neither; the event; and the time that is held against it.
+// The first PRECHARGE ALL: "that command must stand at 100,000,000 ps or later".
+const POWER_UP: Ps = Ps(100_000_000);
+
+// What a rule asks of a time.
 #[derive(Clone, Copy)]
-pub struct Held {
-    pub mark: u8,
-    pub asked: Ps,
-    pub since: Since,
-    pub until: Ps,
+pub enum Limit {
+    AtLeast(Ps),
+    AtMost(Ps),
 }
 
-// "The first record stands on the clock equal to its skipped count; each later one on the previous clock plus its skipped count plus 1."
-pub fn clock_of(last: Event, skipped: u32) -> Clock {
-    let skipped = skipped as u64;
-    match last {
-        Event::Never => Clock(skipped),
-        Event::On(n) => {
-            if n.0 < 1_099_511_627_777 {
-                Clock(n.0 + skipped + 1)
-            } else {
-                n
-            }
+impl fmt::Display for Limit {
+    fn fmt<W: fmt::Write>(&self, f: &mut fmt::Formatter<W>) -> fmt::Result {
+        match *self {
+            Limit::AtLeast(t) => write!(f, "at least {}", Ns(t)),
+            Limit::AtMost(t) => write!(f, "at most {}", Ns(t)),
         }
     }
 }
 
-// The minimum of interval k.
-fn minimum(k: u8, t: SpeedTable, period: Ps) -> Ps {
-    match k {
-        1 => t.trcd,
-        2 => t.trasmin,
-        3 => t.trc,
-        4 => t.trp,
-        5 => t.trrd,
-        6 => t.trfc,
-        7 => t.twr,
-        _ => lasts(t.tmrd, period),
+// What was asked of the time from an event, or from the start, until another time.
+#[derive(Clone, Copy)]
+pub struct Held {
+    pub limit: Limit,
+    pub since: Option<Since>,
+    pub until: Ps,
+}
+
+// `Asked: at least 15.000 ns since ..`, and `Found: 7.500 ns.`, the time from the event; an event may still be ahead.
+impl fmt::Display for Held {
+    fn fmt<W: fmt::Write>(&self, f: &mut fmt::Formatter<W>) -> fmt::Result {
+        write!(f, "Asked: {}", self.limit)?;
+        let mut from = Ps(0);
+        if let Some(since) = self.since {
+            write!(f, " since {since}")?;
+            from = since.at.time;
+        }
+        let apart = Ns(Ps(self.until.0.abs_diff(from.0)));
+        if self.until < from {
+            write!(f, ".\nFound: it is still ahead, by {apart}.\n")
+        } else {
+            write!(f, ".\nFound: {apart}.\n")
+        }
     }
 }
 
-// "tCK of the chosen latency."
-fn tck(r: Record, t: SpeedTable) -> Ps {
-    if mode::latency(r.addr) == 2 {
-        t.tck2
-    } else {
-        t.tck3
+// What is said of times: what was asked and what was found, or the event alone.
+#[derive(Clone, Copy)]
+pub enum Times {
+    Held(Held),
+    Found(Since),
+}
+
+impl fmt::Display for Times {
+    fn fmt<W: fmt::Write>(&self, f: &mut fmt::Formatter<W>) -> fmt::Result {
+        match self {
+            Times::Held(held) => write!(f, "{held}"),
+            Times::Found(since) => writeln!(f, "Found: {since}."),
+        }
     }
 }
 
 // A time m after e.
 fn plus(e: Ps, m: Ps) -> Ps {
-    if 288_230_376_151_711_744 < e.0 {
-        return e;
-    }
-    if 288_230_376_151_711_744 < m.0 {
-        return e;
-    }
-    Ps(e.0 + m.0)
+    Ps(e.0.saturating_add(m.0))
 }
 
-// 22: when auto precharge would close the bank whose ACTIVE stood at `active`: "the later of ACTIVE + tRAS min and: for a READ at r, clock
-// r + length; for a WRITE with last beat at e, clock e + 1 plus the addition".
-fn closing(r: Record, t: SpeedTable, u: StartUp, active: Ps, now: Ps, period: Ps) -> Ps {
-    let register = u.register;
-    let word = steps::word_in(register);
-    let earliest = plus(active, t.trasmin);
-    if layout::is(layout::command_of(r.code), Command::Write) {
-        let length = lasts(Clock(mode::write_length(word) as u64), period);
-        return earliest.later(plus(plus(now, length), t.addition));
-    }
-    let length = lasts(Clock(mode::length_of(word) as u64), period);
-    earliest.later(plus(now, length))
-}
-
-// The event that the number counts from: an interval of 16, the last refresh, the longest open row, or the state of the own bank.
-fn counted_by(number: u8, interval: u8, command: Command) -> u8 {
-    match number {
-        12 => 6,
-        13 => events::LONGEST_OPEN,
-        15 => {
-            if layout::looks_at_all(command) {
-                events::LONGEST_OPEN
-            } else {
-                events::OWN_STATUS
-            }
+impl Halt {
+    fn minimum(&self, minimum: Interval) -> Ps {
+        let t = self.table;
+        match minimum {
+            Interval::Rcd => t.trcd,
+            Interval::Ras => t.trasmin,
+            Interval::Rc => t.trc,
+            Interval::Rp => t.trp,
+            Interval::Rrd => t.trrd,
+            Interval::Rfc => t.trfc,
+            Interval::Wr => t.twr,
+            Interval::Mrd => lasts(t.tmrd, self.period()),
         }
-        16 => interval,
-        _ => events::OWN_STATUS,
     }
-}
 
-fn hold(mark: u8, asked: Ps, since: Since, until: Ps) -> Held {
-    Held {
-        mark,
-        asked,
-        since,
-        until,
-    }
-}
-
-// 14: the step of start-up. 0 is before the first PRECHARGE ALL, 1 before two refreshes, 2 before the first LOAD MODE; 3 is a first
-// PRECHARGE ALL that comes too early.
-pub fn step(u: StartUp, r: Record) -> u8 {
-    let refreshes = u.refreshes;
-    if steps::begun(u) {
-        if steps::two_done(refreshes) {
-            return 2;
+    // "tCK of the chosen latency."
+    fn tck(&self) -> Ps {
+        match mode::latency(self.record.addr) {
+            2 => self.table.tck2,
+            _ => self.table.tck3,
         }
-        return 1;
     }
-    let precharge = layout::is(layout::command_of(r.code), Command::Precharge);
-    if precharge & layout::a10(r.addr) {
-        return 3;
-    }
-    0
-}
 
-// The times of a refused record.
-pub fn times(h: Halt, t: SpeedTable) -> Held {
-    let s = h.state;
-    let r = h.record;
-    let core = s.core;
-    let startup = core.startup;
-    let bus = core.bus;
-    let last = core.last;
-    let period = core.period;
-    let number = h.number;
-    let n = clock_of(last, r.skipped);
-    let now = lasts(n, period);
-    let none = events::nothing();
-    let command = layout::command_of(r.code);
-    let since = events::counted(counted_by(number, h.interval, command), s, r);
-    let burst = events::running(bus, n, period);
-    match number {
-        12 => hold(2, t.interval, since, now),
-        13 => hold(2, t.trasmax, since, now),
-        14 => hold(step(startup, r) / 3, Ps(100_000_000), none, now),
-        15 => hold(0, period, since, now),
-        16 => hold(1, minimum(h.interval, t, period), since, now),
-        18 => hold(1, tck(r, t), none, period),
-        19 => hold(1, burst.length, burst.since, now),
-        22 => hold(
-            2,
-            t.trasmax,
+    // 19: the burst that no other may cut.
+    fn unfinished(&self) -> Unfinished {
+        Unfinished::on_bus(&self.state.core.bus, self.clock(), self.period())
+    }
+
+    // 22: when auto precharge would close the bank whose ACTIVE stood at `active`: "the later of ACTIVE + tRAS min and: for a READ at r,
+    // clock r + length; for a WRITE with last beat at e, clock e + 1 plus the addition".
+    fn closing(&self, active: Ps) -> Ps {
+        let word = self.state.core.startup.word();
+        let (length, addition) = match self.command() {
+            Command::Write => (mode::write_length(word), self.table.addition),
+            _ => (mode::length_of(word), Ps(0)),
+        };
+        let ended = plus(self.now(), lasts(Clock(u64::from(length)), self.period()));
+        plus(active, self.table.trasmin).later(plus(ended, addition))
+    }
+
+    // The event that the rule counts from: that of a minimum, for 12 that of tRFC, the longest open row, the burst, or what made the own
+    // bank's state.
+    fn since(&self) -> Option<Since> {
+        let sought = match self.refusal {
+            Refusal::TooSoon(minimum) => Sought::Minimum(minimum),
+            Refusal::LateRefresh => Sought::Minimum(Interval::Rfc),
+            Refusal::LongRow => Sought::LongestOpen,
+            Refusal::UnfinishedBurst => return Some(self.unfinished().since),
+            Refusal::BankState if self.command().looks_at_all() => Sought::LongestOpen,
+            Refusal::BankState | Refusal::LateClosing => Sought::OwnStatus,
+            _ => return None,
+        };
+        sought.event(&self.state, self.record)
+    }
+
+    // What the rule asks of the time from there on; a PRECHARGE ALL that is too early counts from the start.
+    fn limit(&self) -> Option<Limit> {
+        match self.refusal {
+            Refusal::LateRefresh => Some(Limit::AtMost(self.table.interval)),
+            Refusal::LongRow | Refusal::LateClosing => Some(Limit::AtMost(self.table.trasmax)),
+            Refusal::StartUpStep if self.step() == Step::TooEarly => Some(Limit::AtLeast(POWER_UP)),
+            Refusal::TooSoon(minimum) => Some(Limit::AtLeast(self.minimum(minimum))),
+            Refusal::ShortClock => Some(Limit::AtLeast(self.tck())),
+            Refusal::UnfinishedBurst => Some(Limit::AtLeast(self.unfinished().length)),
+            _ => None,
+        }
+    }
+
+    // The time that is held against it: the record's, but for the period and for a closing.
+    fn until(&self, since: Option<Since>) -> Ps {
+        match (self.refusal, since) {
+            (Refusal::ShortClock, _) => self.period(),
+            (Refusal::LateClosing, Some(active)) => self.closing(active.at.time),
+            _ => self.now(),
+        }
+    }
+
+    // The times of the refusal, where its rule has any.
+    pub fn times(&self) -> Option<Times> {
+        let since = self.since();
+        let Some(limit) = self.limit() else {
+            return Some(Times::Found(since?));
+        };
+        let until = self.until(since);
+        Some(Times::Held(Held {
+            limit,
             since,
-            closing(r, t, startup, since.time, now, period),
-        ),
-        _ => hold(0, period, none, now),
+            until,
+        }))
     }
 }

@@ -1,58 +1,86 @@
-// The records of a trace one by one, and the state that a refused record found.
+// The records of a trace one by one, and what a refused record found.
+use crate::broken::Step;
 use device::Device;
-use layout::{Record, RecordBytes};
-use rules::{Setup, State};
-use units::Module;
+use layout::{Command, Header, Record};
+use rules::{Ran, Refusal, Setup, State, Status};
+use speed::SpeedTable;
+use units::time::lasts;
+use units::{Clock, Module, PAGE_BYTES, Ps};
 
-// What a refused record found: number and interval, its own number, the state before it, and the record.
+// What a refused record found: its place in the trace, why it is refused, the table, the state before it, and the record.
 #[derive(Clone, Copy)]
 pub struct Halt {
-    pub number: u8,
-    pub interval: u8,
     pub place: u64,
+    pub refusal: Refusal,
+    pub table: SpeedTable,
     pub state: State,
     pub record: Record,
 }
 
-// The bytes of record k, after the header; none where the trace has no such record.
-fn bytes_of(trace: &[u8], k: u64) -> &[u8] {
-    if trace.len() < 32 {
-        return &trace[0..0];
-    }
-    let most = (trace.len() - 32) as u64 / 16;
-    if most < k {
-        return &trace[0..0];
-    }
-    let at = 16 + 16 * (k as usize);
-    &trace[at..at + 16]
+// The state after these records.
+fn state_after(start: Device, setup: Setup, records: &[u8]) -> State {
+    let mut page = [0u8; PAGE_BYTES];
+    start.records(setup, records, &mut page, &mut []).next.0
 }
 
-// Record k, or one of zeros where there is none.
-pub fn record_of(grade: u8, trace: &[u8], k: u64) -> Record {
-    let m = Module::of_grade(grade);
-    let RecordBytes::Whole(r) = layout::read_record(m, bytes_of(trace, k)) else {
-        return layout::record_from(m, 0, 0);
-    };
-    r
-}
-
-// The bytes of the first `count` records; none where the trace has no so many.
-fn bytes_before(trace: &[u8], count: u64) -> &[u8] {
-    if trace.len() < 16 {
-        return &trace[0..0];
+impl Halt {
+    // The record that the judge reports of a trace with this header; none where the trace has no such record.
+    pub fn of(ran: Ran, h: Header, setup: Setup, trace: &[u8]) -> Option<Halt> {
+        let refusal = ran.verdict.err()?;
+        let (chunks, _) = trace.as_chunks::<16>();
+        let (_, records) = chunks.split_first()?;
+        let (before, rest) = records.split_at_checked(ran.reported as usize)?;
+        let record = layout::read_record(Module::of_grade(h.grade), rest.first()?)?;
+        let start = Device::start(Ps(u64::from(h.period)), h.grade, h.bank, h.row);
+        Some(Halt {
+            place: ran.reported,
+            refusal,
+            table: setup.table,
+            state: state_after(start, setup, before.as_flattened()),
+            record,
+        })
     }
-    let most = (trace.len() - 16) as u64 / 16;
-    if most < count {
-        return &trace[0..0];
-    }
-    let end = 16 + 16 * (count as usize);
-    &trace[16..end]
-}
 
-// The state after the first `count` records.
-pub fn state_at(start: Device, setup: Setup, trace: &[u8], count: u64, page: &mut [u8]) -> State {
-    let mut no_beats = [0u64; 1];
-    let judged = start.records(setup, bytes_before(trace, count), page, &mut no_beats[0..0]);
-    let next = judged.next;
-    next.0
+    pub fn period(&self) -> Ps {
+        self.state.core.period
+    }
+
+    pub fn command(&self) -> Command {
+        Command::from(self.record.code)
+    }
+
+    // "The first record stands on the clock equal to its skipped count; each later one on the previous clock plus its skipped count plus 1."
+    pub fn clock(&self) -> Clock {
+        let skipped = u64::from(self.record.skipped);
+        match self.state.core.last {
+            None => Clock(skipped),
+            Some(n) => Clock(n.0.saturating_add(skipped + 1)),
+        }
+    }
+
+    // The time of the record.
+    pub fn now(&self) -> Ps {
+        lasts(self.clock(), self.period())
+    }
+
+    // What the record's own bank is.
+    pub fn status(&self) -> Status {
+        self.state.banks[usize::from(self.record.ba % 4)].status
+    }
+
+    // 14: the step of start-up at which the record stands.
+    pub fn step(&self) -> Step {
+        let startup = self.state.core.startup;
+        if startup.begun() {
+            if startup.refreshes.two_done() {
+                Step::BeforeLoad
+            } else {
+                Step::BeforeRefreshes
+            }
+        } else if self.command() == Command::Precharge && layout::a10(self.record.addr) {
+            Step::TooEarly
+        } else {
+            Step::BeforeAllClosed
+        }
+    }
 }

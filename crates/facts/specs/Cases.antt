@@ -15,6 +15,8 @@ use Rattle.bursts.specs.declared.Beat.TheVariants.{Quiet, Stores, Drives}
 use Rattle.bursts.specs.Burst.{has_beat, write_beat, read_beat, finished}
 use Rattle.bursts.specs.Bus.{masks_on, masks_after, reads_from, bus_after, beat_on, bursts_finished, driven, bus_clear}
 use Rattle.bursts.specs.Cases.{Row, ◌gives◌, found, expected}
+use Rattle.rules.specs.OneRecord.{Stepped}
+use Rattle.rules.specs.declared.Answer.{Answer}
 use Rattle.rules.specs.declared.State.{State}
 use Rattle.rules.specs.declared.Setup.{Setup}
 use Rattle.rules.specs.Numbers.{number_of, interval_of, tRCD, tRP, tRFC, tWR}
@@ -135,6 +137,28 @@ outcome_of k u =
 
 abbrev pub outcome : ℕ → ℕ → ℕ → List Reported → Outcome
 outcome number interval reported beats = record { number = number; interval = interval; reported = reported; beats = beats }
+
+-- an answer in numbers: number and interval of the verdict, the record that it reports, and the beat
+pub record Answered : Type 0 where
+  pub number : ℕ
+  pub interval : ℕ
+  pub reported : ℕ
+  pub beat : Beat
+
+abbrev pub answered : ℕ → ℕ → ℕ → Beat → Answered
+answered number interval reported beat = record { number = number; interval = interval; reported = reported; beat = beat }
+
+abbrev pub in_numbers : Answer → Answered
+in_numbers a = answered (number_of a.verdict) (interval_of a.verdict) a.reported a.beat
+
+-- what a call leaves, its answer in numbers
+pub record Leaves : Type 0 where
+  pub answer : Answered
+  pub next : State
+  pub page : List ℕ
+
+abbrev pub left_in_numbers : Stepped → Leaves
+left_in_numbers x = record { answer = in_numbers x.answer; next = x.next; page = x.page }
 
 -- a call with the table of grade -133
 abbrev pub with_133 : Setup

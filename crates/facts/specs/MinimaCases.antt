@@ -1,7 +1,7 @@
 -- Each minimum of number 16 with each command that asks it, from each kind of event that it counts from, on both sides; and the steps
 -- of start-up with each command. From document 01's sentences. `FurtherCases` proves it.
-use Rattle.std.specs.Prelude.{ℕ, zero, suc, List, [], ◌∷◌, ◌++◌, length}
-use Rattle.units.specs.declared.Event.TheVariants.{Never, On}
+use Rattle.rules.specs.Parts.{loaded}
+use Rattle.std.specs.Prelude.{ℕ, zero, suc, List, [], ◌∷◌, ◌++◌, length, None, Some}
 use Rattle.units.specs.Time.{clock, time}
 use Rattle.speed.specs.declared.SpeedTable.{SpeedTable}
 use Rattle.speed.specs.Table.{table}
@@ -10,7 +10,6 @@ use Rattle.layout.specs.declared.Command.TheVariants.{Inhibit, Write}
 use Rattle.bursts.specs.Bus.{quiet_bus}
 use Rattle.bursts.specs.Cases.{Row}
 use Rattle.rules.specs.declared.Refreshes.TheVariants.{Two}
-use Rattle.rules.specs.declared.Register.TheVariants.{Loaded}
 use Rattle.rules.specs.declared.Status.TheVariants.{Closed}
 use Rattle.rules.specs.declared.Bank.{Bank}
 use Rattle.rules.specs.declared.State.{State}
@@ -89,13 +88,13 @@ reports t period rs count beats = case_by whole_run (cases.reports t period rs c
 
 -- a bank that the first PRECHARGE ALL closed
 abbrev closed : Bank
-closed = bank (Closed (time 100_005_000)) Never Never
+closed = bank (Closed (time 100_005_000)) None None
 
 -- the state that `up` leaves with this mode word, at period 7,500: `NextCases` has the row
 abbrev pub ready : ℕ → State
 ready word =
-    state 7500 0 0 4 (On (clock 13_355))
-    (record { allclosed = On (clock 13_334); refreshes = Two (clock 13_346); register = Loaded word (clock 13_355) })
+    state 7500 0 0 4 (Some (clock 13_355))
+    (record { allclosed = Some (clock 13_334); refreshes = Two (clock 13_346); register = loaded word (clock 13_355) })
     quiet_bus
     (closed ∷ closed ∷ closed ∷ closed ∷ [])
 

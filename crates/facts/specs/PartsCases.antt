@@ -1,8 +1,7 @@
 -- "The rules are read on the state's own parts, so a state that no trace reaches has one fixed answer too": rows from such states. From
 -- document 01's sentences and docs/DECISIONS.md, 13. Assumes nothing.
-use Rattle.std.specs.Prelude.{ℕ, zero, suc, ◌+◌, ◌^◌, ◌≡◌, refl, Bool, true, false, cond, List, [], ◌∷◌, ◌++◌, leb, eqb, set, replicate}
-use Rattle.units.specs.declared.Event.{Event}
-use Rattle.units.specs.declared.Event.TheVariants.{Never, On}
+use Rattle.units.specs.declared.Clock.{Clock}
+use Rattle.std.specs.Prelude.{ℕ, zero, suc, ◌+◌, ◌^◌, ◌≡◌, refl, Bool, true, false, cond, List, [], ◌∷◌, ◌++◌, leb, eqb, set, replicate, Option, None, Some}
 use Rattle.units.specs.Time.{clock, time}
 use Rattle.speed.specs.declared.SpeedTable.{SpeedTable}
 use Rattle.speed.specs.Table.{table, grade_133}
@@ -29,15 +28,14 @@ use Rattle.bursts.specs.Bus.{
 }
 use Rattle.bursts.specs.Cases.{Row, found, expected}
 use Rattle.rules.specs.declared.Refreshes.{Refreshes}
-use Rattle.rules.specs.declared.Refreshes.TheVariants.{None, One, Two}
+use Rattle.rules.specs.declared.Refreshes.TheVariants.{Zero, One, Two}
 use Rattle.rules.specs.declared.Register.{Register}
-use Rattle.rules.specs.declared.Register.TheVariants.{Unloaded, Loaded}
 use Rattle.rules.specs.declared.StartUp.{StartUp}
 use Rattle.rules.specs.declared.Status.TheVariants.{NotStarted, Open, Closed}
 use Rattle.rules.specs.declared.Bank.{Bank}
 use Rattle.rules.specs.declared.State.{State}
 use Rattle.rules.specs.Numbers.{tRCD, tRAS, tRC, tRP, tRRD, tRFC, tWR, tMRD}
-use Rattle.rules.specs.Parts.{no_bank}
+use Rattle.rules.specs.Parts.{no_bank, loaded}
 use Rattle.rules.specs.StartUp.{allowed}
 use Rattle.rules.specs.Banks.{banks_found}
 use Rattle.rules.specs.Minima.{of_closing, of_any, of_active, of_access, of_precharged, of_precharge, of_idle, events, minima}
@@ -84,28 +82,28 @@ bus write reads = record { write = write; reads = reads; masks = masks 0 0 0 }
 
 -- the next record is number 5; start-up, bus and banks like this
 abbrev at_1000 : StartUp → Bus → List Bank → State
-at_1000 u b banks = state 7500 1 7 5 (On (clock 1_000)) u b banks
+at_1000 u b banks = state 7500 1 7 5 (Some (clock 1_000)) u b banks
 
-abbrev begun_at : Event → Refreshes → Register → StartUp
+abbrev begun_at : Option Clock → Refreshes → Option Register → StartUp
 begun_at allclosed refreshes register = record { allclosed = allclosed; refreshes = refreshes; register = register }
 
 -- in mode 0031, and the other one in this mode
 abbrev up_in : ℕ → StartUp
-up_in word = begun_at (On (clock 0)) (Two (clock 900)) (Loaded word (clock 950))
+up_in word = begun_at (Some (clock 0)) (Two (clock 900)) (loaded word (clock 950))
 
 -- long open, and long closed
 abbrev long_open : Bank
-long_open = bank (Open 7 (clock 900)) (On (clock 900)) Never
+long_open = bank (Open 7 (clock 900)) (Some (clock 900)) None
 
 abbrev long_closed : Bank
-long_closed = bank (Closed (time 0)) Never Never
+long_closed = bank (Closed (time 0)) None None
 
 -- banks 1 and 2 open, the others closed
 abbrev two_open : List Bank
 two_open = long_closed ∷ long_open ∷ long_open ∷ long_closed ∷ []
 
 -- a live burst of bank 1, row 7
-abbrev burst : ℕ → ℕ → Event → ℕ → Burst
+abbrev burst : ℕ → ℕ → Option Clock → ℕ → Burst
 burst column start cut word =
     record { live = true; auto = false; bank = 1; row = 7; column = column; start = clock start; cut = cut; word = word }
 
@@ -136,34 +134,34 @@ close_all = rec 0 Precharge 0 (with_a10 0) 0
 -- after command x on 1,001, the beats on 1,005 and 1,006 of a WRITE of length 4 that starts on 1,005; `own` are those of x
 abbrev ahead : Record → List Reported → Row Outcome
 ahead x own =
-    clean (with_write (burst 0 1_005 Never 0x32)) (x ∷ nop 3 0 ∷ nop 0 0 ∷ []) 3
+    clean (with_write (burst 0 1_005 None 0x32)) (x ∷ nop 3 0 ∷ nop 0 0 ∷ []) 3
     (own ++ (W 6 1_005 1 7 0 255 ∷ W 7 1_006 1 7 1 255 ∷ []))
 
 -- of one that starts on x's own clock
 abbrev beside : Record → Row Outcome
 beside x =
-    clean (with_write (burst 0 1_001 Never 0x32)) (x ∷ nop 0 0 ∷ []) 2 (W 5 1_001 1 7 0 255 ∷ W 6 1_002 1 7 1 255 ∷ [])
+    clean (with_write (burst 0 1_001 None 0x32)) (x ∷ nop 0 0 ∷ []) 2 (W 5 1_001 1 7 0 255 ∷ W 6 1_002 1 7 1 255 ∷ [])
 
 -- of one that started on 1,000
 abbrev behind : Record → Row Outcome
-behind x = clean (with_write (burst 0 1_000 Never 0x32)) (x ∷ nop 0 0 ∷ []) 2 []
+behind x = clean (with_write (burst 0 1_000 None 0x32)) (x ∷ nop 0 0 ∷ []) 2 []
 
 -- the beats on 1,008 and 1,009 of a READ of length 4 with CL 3 that starts on 1,005, in place k
 abbrev read_ahead : ℕ → Record → List Reported → Row Outcome
 read_ahead k x own =
-    clean (with_reads (in_place k (burst 0 1_005 Never 0x32))) (x ∷ nop 4 0 ∷ nop 0 0 ∷ nop 0 0 ∷ nop 0 0 ∷ []) 5
+    clean (with_reads (in_place k (burst 0 1_005 None 0x32))) (x ∷ nop 4 0 ∷ nop 0 0 ∷ nop 0 0 ∷ nop 0 0 ∷ []) 5
     (own ++ (R 8 1_008 1 7 0 255 ∷ R 9 1_009 1 7 1 255 ∷ []))
 
 -- of one that starts on x's own clock: on 1,004 and 1,005
 abbrev read_beside : ℕ → Record → List Reported → Row Outcome
 read_beside k x own =
-    clean (with_reads (in_place k (burst 0 1_001 Never 0x32))) (x ∷ nop 0 0 ∷ nop 0 0 ∷ nop 0 0 ∷ nop 0 0 ∷ []) 5
+    clean (with_reads (in_place k (burst 0 1_001 None 0x32))) (x ∷ nop 0 0 ∷ nop 0 0 ∷ nop 0 0 ∷ nop 0 0 ∷ []) 5
     (own ++ (R 8 1_004 1 7 0 255 ∷ R 9 1_005 1 7 1 255 ∷ []))
 
 -- of one that started on 1,000: its first beat is on 1,003, and no other is left
 abbrev read_behind : ℕ → Record → Row Outcome
 read_behind k x =
-    clean (with_reads (in_place k (burst 0 1_000 Never 0x32))) (x ∷ nop 0 0 ∷ nop 0 0 ∷ nop 0 0 ∷ []) 4 (R 7 1_003 1 7 0 255 ∷ [])
+    clean (with_reads (in_place k (burst 0 1_000 None 0x32))) (x ∷ nop 0 0 ∷ nop 0 0 ∷ nop 0 0 ∷ []) 4 (R 7 1_003 1 7 0 255 ∷ [])
 
 -- in each of the four places
 abbrev in_places : (ℕ → List (Row Outcome)) → List (Row Outcome)
@@ -185,10 +183,10 @@ cut_reads k =
     ∷ read_behind k (close 1)
     ∷ read_behind k close_all
     -- a WRITE loses what is still to come
-    ∷ clean (with_reads (in_place k (burst 0 1_000 Never 0x32))) (write 0 2 0 ∷ nop 0 0 ∷ nop 0 0 ∷ nop 0 0 ∷ []) 4
+    ∷ clean (with_reads (in_place k (burst 0 1_000 None 0x32))) (write 0 2 0 ∷ nop 0 0 ∷ nop 0 0 ∷ nop 0 0 ∷ []) 4
     (W 5 1_001 2 7 0 255 ∷ W 6 1_002 2 7 1 255 ∷ [])
     -- another bank's PRECHARGE leaves it
-    ∷ clean (with_reads (in_place k (burst 0 1_000 Never 0x32))) (close 2 ∷ nop 0 0 ∷ nop 0 0 ∷ nop 0 0 ∷ []) 4
+    ∷ clean (with_reads (in_place k (burst 0 1_000 None 0x32))) (close 2 ∷ nop 0 0 ∷ nop 0 0 ∷ nop 0 0 ∷ []) 4
     (R 7 1_003 1 7 0 255 ∷ R 8 1_004 1 7 1 255 ∷ [])
     ∷ []
 
@@ -208,21 +206,21 @@ cuts =
     ∷ behind close_all
     ∷ behind (read 0 2 0)
     -- "(The state has one place for a WRITE burst: a new WRITE takes it.)" In mode 0031 it has beats on 1,001 and 1,002
-    ∷ clean (with_write (burst 0 1_005 Never 0x32)) (write 0 2 8 ∷ nop 0 0 ∷ nop 2 0 ∷ []) 3
+    ∷ clean (with_write (burst 0 1_005 None 0x32)) (write 0 2 8 ∷ nop 0 0 ∷ nop 2 0 ∷ []) 3
     (W 5 1_001 2 7 8 255 ∷ W 6 1_002 2 7 9 255 ∷ [])
     -- a held cut on the start or before it loses nothing; one after it does
-    ∷ clean (with_write (burst 0 1_001 (On (clock 1_001)) 0x32)) (nop 0 0 ∷ nop 0 0 ∷ []) 2
+    ∷ clean (with_write (burst 0 1_001 (Some (clock 1_001)) 0x32)) (nop 0 0 ∷ nop 0 0 ∷ []) 2
     (W 5 1_001 1 7 0 255 ∷ W 6 1_002 1 7 1 255 ∷ [])
-    ∷ clean (with_write (burst 0 1_001 (On (clock 1_000)) 0x32)) (nop 0 0 ∷ nop 0 0 ∷ []) 2
+    ∷ clean (with_write (burst 0 1_001 (Some (clock 1_000)) 0x32)) (nop 0 0 ∷ nop 0 0 ∷ []) 2
     (W 5 1_001 1 7 0 255 ∷ W 6 1_002 1 7 1 255 ∷ [])
-    ∷ clean (with_write (burst 0 1_001 (On (clock 1_002)) 0x32)) (nop 0 0 ∷ nop 0 0 ∷ []) 2 (W 5 1_001 1 7 0 255 ∷ [])
+    ∷ clean (with_write (burst 0 1_001 (Some (clock 1_002)) 0x32)) (nop 0 0 ∷ nop 0 0 ∷ []) 2 (W 5 1_001 1 7 0 255 ∷ [])
     -- and a command after the start cuts it all the same
-    ∷ clean (with_write (burst 0 1_001 (On (clock 1_000)) 0x32)) (nop 0 0 ∷ terminate 0 ∷ nop 0 0 ∷ []) 3
+    ∷ clean (with_write (burst 0 1_001 (Some (clock 1_000)) 0x32)) (nop 0 0 ∷ terminate 0 ∷ nop 0 0 ∷ []) 3
     (W 5 1_001 1 7 0 255 ∷ [])
     -- "of two cuts after the start the earlier counts": READs of full page since 990, cut on 1,000 and on 1,003
-    ∷ clean (with_reads (in_place 0 (burst 0 990 (On (clock 1_000)) 0x37))) (terminate 0 ∷ nop 0 0 ∷ nop 0 0 ∷ []) 3
+    ∷ clean (with_reads (in_place 0 (burst 0 990 (Some (clock 1_000)) 0x37))) (terminate 0 ∷ nop 0 0 ∷ nop 0 0 ∷ []) 3
     (R 5 1_001 1 7 8 255 ∷ R 6 1_002 1 7 9 255 ∷ [])
-    ∷ clean (with_reads (in_place 0 (burst 0 990 (On (clock 1_003)) 0x37))) (terminate 0 ∷ nop 0 0 ∷ nop 0 0 ∷ nop 0 0 ∷ []) 4
+    ∷ clean (with_reads (in_place 0 (burst 0 990 (Some (clock 1_003)) 0x37))) (terminate 0 ∷ nop 0 0 ∷ nop 0 0 ∷ nop 0 0 ∷ []) 4
     (R 5 1_001 1 7 8 255 ∷ R 6 1_002 1 7 9 255 ∷ R 7 1_003 1 7 10 255 ∷ [])
     ∷ []
 
@@ -231,29 +229,29 @@ cuts =
 -- a READ of length 8 since 998, in place k, and one on 1,001 from column 8 in mode 0031: its beats up to 1,003 still come
 abbrev survives : ℕ → List (Row Outcome)
 survives k =
-    clean (with_reads (in_place k (burst 0 998 Never 0x33))) (read 0 1 8 ∷ nop 0 0 ∷ nop 0 0 ∷ nop 0 0 ∷ []) 4
+    clean (with_reads (in_place k (burst 0 998 None 0x33))) (read 0 1 8 ∷ nop 0 0 ∷ nop 0 0 ∷ nop 0 0 ∷ []) 4
     (R 5 1_001 1 7 0 255 ∷ R 6 1_002 1 7 1 255 ∷ R 7 1_003 1 7 2 255 ∷ R 8 1_004 1 7 8 255 ∷ [])
     -- a WRITE on 1,003 finds it driven
-    ∷ from (with_reads (in_place k (burst 0 998 Never 0x33))) (read 0 1 8 ∷ nop 0 0 ∷ write 0 1 0 ∷ []) 20 0 7
+    ∷ from (with_reads (in_place k (burst 0 998 None 0x33))) (read 0 1 8 ∷ nop 0 0 ∷ write 0 1 0 ∷ []) 20 0 7
     (R 5 1_001 1 7 0 255 ∷ R 6 1_002 1 7 1 255 ∷ [])
     -- the other three are over, or not live
-    ∷ clean (with_reads (set (replicate 4 (burst 0 990 Never 0x30)) k (burst 0 998 Never 0x33)))
+    ∷ clean (with_reads (set (replicate 4 (burst 0 990 None 0x30)) k (burst 0 998 None 0x33)))
     (read 0 1 8 ∷ nop 0 0 ∷ nop 0 0 ∷ []) 3
     (R 5 1_001 1 7 0 255 ∷ R 6 1_002 1 7 1 255 ∷ R 7 1_003 1 7 2 255 ∷ [])
     ∷ []
 
 -- four READs with beats to come: only the first one, of 996, has one on 1,003, and it makes room; the others were cut before
 abbrev r996 : Burst
-r996 = burst 16 996 Never 0x33
+r996 = burst 16 996 None 0x33
 
 abbrev r997 : Burst
-r997 = burst 24 997 (On (clock 999)) 0x33
+r997 = burst 24 997 (Some (clock 999)) 0x33
 
 abbrev r998 : Burst
-r998 = burst 32 998 (On (clock 999)) 0x33
+r998 = burst 32 998 (Some (clock 999)) 0x33
 
 abbrev r999 : Burst
-r999 = burst 40 999 (On (clock 1_000)) 0x33
+r999 = burst 40 999 (Some (clock 1_000)) 0x33
 
 abbrev crowded : List Burst → Row Outcome
 crowded bs =
@@ -270,14 +268,14 @@ rooms =
     ∷ clean (with_reads (r996 ∷ r997 ∷ r998 ∷ r999 ∷ [])) (nop 0 0 ∷ nop 0 0 ∷ nop 0 0 ∷ []) 3
     (R 5 1_001 1 7 32 255 ∷ R 6 1_002 1 7 40 255 ∷ R 7 1_003 1 7 20 255 ∷ [])
     -- "Two READs with a beat on one clock: the latest registered one's"; "of two registered on one clock the first"
-    ∷ clean (with_reads (burst 0 996 Never 0x33 ∷ burst 8 998 Never 0x33 ∷ no_burst ∷ no_burst ∷ [])) (nop 0 0 ∷ []) 1
+    ∷ clean (with_reads (burst 0 996 None 0x33 ∷ burst 8 998 None 0x33 ∷ no_burst ∷ no_burst ∷ [])) (nop 0 0 ∷ []) 1
     (R 5 1_001 1 7 8 255 ∷ [])
-    ∷ clean (with_reads (no_burst ∷ burst 8 998 Never 0x33 ∷ no_burst ∷ burst 0 996 Never 0x33 ∷ [])) (nop 0 0 ∷ []) 1
+    ∷ clean (with_reads (no_burst ∷ burst 8 998 None 0x33 ∷ no_burst ∷ burst 0 996 None 0x33 ∷ [])) (nop 0 0 ∷ []) 1
     (R 5 1_001 1 7 8 255 ∷ [])
-    ∷ clean (with_reads (no_burst ∷ burst 8 998 Never 0x33 ∷ burst 0 998 Never 0x33 ∷ no_burst ∷ [])) (nop 0 0 ∷ []) 1
+    ∷ clean (with_reads (no_burst ∷ burst 8 998 None 0x33 ∷ burst 0 998 None 0x33 ∷ no_burst ∷ [])) (nop 0 0 ∷ []) 1
     (R 5 1_001 1 7 8 255 ∷ [])
     -- the WRITE's beat before a READ's
-    ∷ clean (at_1000 over (bus (burst 16 1_001 Never 0x30) (in_place 2 (burst 0 998 Never 0x33))) two_open)
+    ∷ clean (at_1000 over (bus (burst 16 1_001 None 0x30) (in_place 2 (burst 0 998 None 0x33))) two_open)
     (nop 0 0 ∷ nop 0 0 ∷ []) 2
     (W 5 1_001 1 7 16 255 ∷ R 6 1_002 1 7 1 255 ∷ [])
     ∷ []
@@ -300,14 +298,14 @@ three = 22_500
 
 -- PRECHARGE ALL, refresh and LOAD MODE two clocks before 1,001, in mode 0030
 abbrev just_now : StartUp
-just_now = begun_at (On (clock 999)) (Two (clock 999)) (Loaded 0x30 (clock 999))
+just_now = begun_at (Some (clock 999)) (Two (clock 999)) (loaded 0x30 (clock 999))
 
 -- all banks opened and written just now; all opened and closed just now
 abbrev opened : State
-opened = at_1000 just_now quiet_bus (replicate 4 (bank (Open 7 (clock 999)) (On (clock 999)) (On (clock 1_000))))
+opened = at_1000 just_now quiet_bus (replicate 4 (bank (Open 7 (clock 999)) (Some (clock 999)) (Some (clock 1_000))))
 
 abbrev closed : State
-closed = at_1000 just_now quiet_bus (replicate 4 (bank (Closed (time 7_492_500)) (On (clock 999)) (On (clock 1_000))))
+closed = at_1000 just_now quiet_bus (replicate 4 (bank (Closed (time 7_492_500)) (Some (clock 999)) (Some (clock 1_000))))
 
 -- refused with interval k, or taken where that is 0
 abbrev asks : SpeedTable → State → Record → List Reported → ℕ → Row Outcome
@@ -377,26 +375,26 @@ with_startup u banks = at_1000 u quiet_bus banks
 abbrev by_bank : ℕ → List (Row Outcome)
 by_bank k =
     -- tWR: a store before the open bank's ACTIVE, or on its clock, is none
-    free (huge tWR) k (bank (Open 7 (clock 999)) (On (clock 999)) (On (clock 998))) (precharge 0 k)
-    ∷ free (huge tWR) k (bank (Open 7 (clock 999)) (On (clock 999)) (On (clock 999))) (precharge 0 k)
-    ∷ held (huge tWR) k (bank (Open 7 (clock 999)) (On (clock 999)) (On (clock 1_000))) (precharge 0 k) tWR
-    ∷ held (huge tWR) k (bank (Open 7 (clock 999)) (On (clock 999)) (On (clock 1_000))) (all_banks 0) tWR
-    ∷ free (huge tWR) k (bank (Open 7 (clock 999)) (On (clock 999)) (On (clock 999))) (all_banks 0)
+    free (huge tWR) k (bank (Open 7 (clock 999)) (Some (clock 999)) (Some (clock 998))) (precharge 0 k)
+    ∷ free (huge tWR) k (bank (Open 7 (clock 999)) (Some (clock 999)) (Some (clock 999))) (precharge 0 k)
+    ∷ held (huge tWR) k (bank (Open 7 (clock 999)) (Some (clock 999)) (Some (clock 1_000))) (precharge 0 k) tWR
+    ∷ held (huge tWR) k (bank (Open 7 (clock 999)) (Some (clock 999)) (Some (clock 1_000))) (all_banks 0) tWR
+    ∷ free (huge tWR) k (bank (Open 7 (clock 999)) (Some (clock 999)) (Some (clock 999))) (all_banks 0)
     -- an open bank whose `active` is Never: tRAS, tRCD, 13 and tWR count from the status's ACTIVE
-    ∷ held (huge tRAS) k (bank (Open 7 (clock 999)) Never Never) (precharge 0 k) tRAS
-    ∷ held (huge tRCD) k (bank (Open 7 (clock 999)) Never Never) (read 0 k 0) tRCD
-    ∷ held (huge tRCD) k (bank (Open 7 (clock 999)) Never Never) (write 0 k 0) tRCD
-    ∷ held (huge tWR) k (bank (Open 7 (clock 999)) Never (On (clock 1_000))) (precharge 0 k) tWR
-    ∷ free (huge tWR) k (bank (Open 7 (clock 999)) Never (On (clock 999))) (precharge 0 k)
-    ∷ runs_from (table 0 0 0 7_499 0 0 0 0 0 0 0 7_812_500 0) (with_bank k (bank (Open 7 (clock 1_000)) Never Never))
+    ∷ held (huge tRAS) k (bank (Open 7 (clock 999)) None None) (precharge 0 k) tRAS
+    ∷ held (huge tRCD) k (bank (Open 7 (clock 999)) None None) (read 0 k 0) tRCD
+    ∷ held (huge tRCD) k (bank (Open 7 (clock 999)) None None) (write 0 k 0) tRCD
+    ∷ held (huge tWR) k (bank (Open 7 (clock 999)) None (Some (clock 1_000))) (precharge 0 k) tWR
+    ∷ free (huge tWR) k (bank (Open 7 (clock 999)) None (Some (clock 999))) (precharge 0 k)
+    ∷ runs_from (table 0 0 0 7_499 0 0 0 0 0 0 0 7_812_500 0) (with_bank k (bank (Open 7 (clock 1_000)) None None))
     (nop 0 255 ∷ []) 13 0 5 []
-    ∷ free (table 0 0 0 7_500 0 0 0 0 0 0 0 7_812_500 0) k (bank (Open 7 (clock 1_000)) Never Never) (nop 0 255)
+    ∷ free (table 0 0 0 7_500 0 0 0 0 0 0 0 7_812_500 0) k (bank (Open 7 (clock 1_000)) None None) (nop 0 255)
     -- not from its `active`, if that is another
     ∷ runs_from (table 0 0 22_500 120_000_000 0 22_500 0 0 0 0 0 7_812_500 0)
-    (with_bank k (bank (Open 7 (clock 998)) (On (clock 1_000)) Never)) (read 0 k 0 ∷ precharge 0 k ∷ []) 0 0 7 []
+    (with_bank k (bank (Open 7 (clock 998)) (Some (clock 1_000)) None)) (read 0 k 0 ∷ precharge 0 k ∷ []) 0 0 7 []
     -- tRC and tRRD count from its `active`, and find no event where that is Never
-    ∷ free (huge tRC) k (bank (Closed (time 0)) Never Never) (active 0 k 7)
-    ∷ held (huge tRC) k (bank (Closed (time 0)) (On (clock 1_000)) Never) (active 0 k 7) tRC
+    ∷ free (huge tRC) k (bank (Closed (time 0)) None None) (active 0 k 7)
+    ∷ held (huge tRC) k (bank (Closed (time 0)) (Some (clock 1_000)) None) (active 0 k 7) tRC
     -- a bank not started is neither open nor closed
     ∷ from (with_bank k no_bank) (active 0 k 7 ∷ []) 15 0 5 []
     ∷ from (with_bank k no_bank) (read 0 k 0 ∷ []) 15 0 5 []
@@ -408,109 +406,109 @@ by_bank k =
     ∷ from (with_bank k no_bank) (precharge 0 k ∷ active 2 k 7 ∷ []) 0 0 7 []
     ∷ from (with_bank k no_bank) (all_banks 0 ∷ active 2 k 7 ∷ []) 0 0 7 []
     -- with tRAS, tRC, tRCD or tWR there is nothing to count from, and 13 does not look at it
-    ∷ free (table 0 0 0 0 1_000_000 0 0 0 0 1_000_000 0 7_812_500 0) k (bank NotStarted Never (On (clock 1_000))) (precharge 0 k)
+    ∷ free (table 0 0 0 0 1_000_000 0 0 0 0 1_000_000 0 7_812_500 0) k (bank NotStarted None (Some (clock 1_000))) (precharge 0 k)
     -- "An event still ahead .. its minimum is not met before it, not even a minimum of 0": its ACTIVE, its store, its closing
-    ∷ held none k (bank (Open 7 (clock 1_002)) Never Never) (read 0 k 0) tRCD
-    ∷ free none k (bank (Open 7 (clock 1_001)) Never Never) (read 0 k 0)
-    ∷ held none k (bank (Open 7 (clock 1_002)) Never Never) (precharge 0 k) tRAS
-    ∷ held none k (bank (Open 7 (clock 1_000)) Never (On (clock 1_002))) (precharge 0 k) tWR
-    ∷ held none k (bank (Closed (time 0)) (On (clock 1_002)) Never) (active 0 k 7) tRC
-    ∷ held none k (bank (Closed (time 7_507_501)) Never Never) (active 0 k 7) tRP
-    ∷ free none k (bank (Closed (time 7_507_500)) Never Never) (active 0 k 7)
-    ∷ held none k (bank (Closed (time 7_507_501)) Never Never) (precharge 0 k) tRP
-    ∷ held none k (bank (Closed (time 7_507_501)) Never Never) (all_banks 0) tRP
-    ∷ held none k (bank (Closed (time 7_507_501)) Never Never) (refresh 0) tRP
-    ∷ held none k (bank (Closed (time 7_507_501)) Never Never) (load 0 0x30) tRP
+    ∷ held none k (bank (Open 7 (clock 1_002)) None None) (read 0 k 0) tRCD
+    ∷ free none k (bank (Open 7 (clock 1_001)) None None) (read 0 k 0)
+    ∷ held none k (bank (Open 7 (clock 1_002)) None None) (precharge 0 k) tRAS
+    ∷ held none k (bank (Open 7 (clock 1_000)) None (Some (clock 1_002))) (precharge 0 k) tWR
+    ∷ held none k (bank (Closed (time 0)) (Some (clock 1_002)) None) (active 0 k 7) tRC
+    ∷ held none k (bank (Closed (time 7_507_501)) None None) (active 0 k 7) tRP
+    ∷ free none k (bank (Closed (time 7_507_500)) None None) (active 0 k 7)
+    ∷ held none k (bank (Closed (time 7_507_501)) None None) (precharge 0 k) tRP
+    ∷ held none k (bank (Closed (time 7_507_501)) None None) (all_banks 0) tRP
+    ∷ held none k (bank (Closed (time 7_507_501)) None None) (refresh 0) tRP
+    ∷ held none k (bank (Closed (time 7_507_501)) None None) (load 0 0x30) tRP
     -- "and no maximum is passed": 13, of an ACTIVE ahead
-    ∷ free (table 0 0 0 0 0 0 0 0 0 0 0 7_812_500 0) k (bank (Open 7 (clock 1_002)) Never Never) (nop 0 255)
+    ∷ free (table 0 0 0 0 0 0 0 0 0 0 0 7_812_500 0) k (bank (Open 7 (clock 1_002)) None None) (nop 0 255)
     ∷ []
 
 -- ACTIVE of bank b after one of bank a, whose `active` is like this
 abbrev other_active : ℕ → ℕ → List (Row Outcome)
 other_active a b =
-    free (huge tRRD) a (bank (Open 7 (clock 1_000)) Never Never) (active 0 b 7)
-    ∷ held (huge tRRD) a (bank (Open 7 (clock 900)) (On (clock 1_000)) Never) (active 0 b 7) tRRD
-    ∷ held (huge tRRD) a (bank NotStarted (On (clock 1_000)) Never) (active 0 b 7) tRRD
-    ∷ held none a (bank (Closed (time 0)) (On (clock 1_002)) Never) (active 0 b 7) tRRD
+    free (huge tRRD) a (bank (Open 7 (clock 1_000)) None None) (active 0 b 7)
+    ∷ held (huge tRRD) a (bank (Open 7 (clock 900)) (Some (clock 1_000)) None) (active 0 b 7) tRRD
+    ∷ held (huge tRRD) a (bank NotStarted (Some (clock 1_000)) None) (active 0 b 7) tRRD
+    ∷ held none a (bank (Closed (time 0)) (Some (clock 1_002)) None) (active 0 b 7) tRRD
     ∷ []
 
 -- a refresh, LOAD MODE or PRECHARGE ALL ahead meets no minimum of any executable command
 abbrev ahead_of : Record → List (Row Outcome)
 ahead_of r =
-    runs_from none (with_startup (begun_at (On (clock 0)) (Two (clock 1_002)) (Loaded 0x30 (clock 0)))
+    runs_from none (with_startup (begun_at (Some (clock 0)) (Two (clock 1_002)) (loaded 0x30 (clock 0)))
     (replicate 4 long_closed)) (r ∷ []) 16 tRFC 5 []
-    ∷ runs_from none (with_startup (begun_at (On (clock 0)) (Two (clock 900)) (Loaded 0x30 (clock 1_002)))
+    ∷ runs_from none (with_startup (begun_at (Some (clock 0)) (Two (clock 900)) (loaded 0x30 (clock 1_002)))
     (replicate 4 long_closed)) (r ∷ []) 16 tMRD 5 []
-    ∷ runs_from none (with_startup (begun_at (On (clock 1_002)) (Two (clock 900)) (Loaded 0x30 (clock 0)))
+    ∷ runs_from none (with_startup (begun_at (Some (clock 1_002)) (Two (clock 900)) (loaded 0x30 (clock 0)))
     (replicate 4 long_closed)) (r ∷ []) 16 tRP 5 []
     ∷ []
 
 -- at 100,000,500 ps: the last record on clock 2,000 of 50,000 ps, and start-up and banks like this
 abbrev late : StartUp → List Bank → State
-late u banks = state 50_000 1 7 5 (On (clock 2_000)) u quiet_bus banks
+late u banks = state 50_000 1 7 5 (Some (clock 2_000)) u quiet_bus banks
 
 abbrev startups : List (Row Outcome)
 startups =
     -- first PRECHARGE ALL, two refreshes, mode loaded, asked in this order: one refresh and a mode loaded, or none
-    from (with_startup (begun_at (On (clock 0)) (One (clock 900)) (Loaded 0x30 (clock 0))) (replicate 4 long_closed))
+    from (with_startup (begun_at (Some (clock 0)) (One (clock 900)) (loaded 0x30 (clock 0))) (replicate 4 long_closed))
     (active 0 1 7 ∷ []) 14 0 5 []
-    ∷ from (with_startup (begun_at (On (clock 0)) (One (clock 900)) (Loaded 0x30 (clock 0))) (replicate 4 long_closed))
+    ∷ from (with_startup (begun_at (Some (clock 0)) (One (clock 900)) (loaded 0x30 (clock 0))) (replicate 4 long_closed))
     (load 0 0x30 ∷ []) 14 0 5 []
-    ∷ from (with_startup (begun_at (On (clock 0)) (One (clock 900)) (Loaded 0x30 (clock 0))) (replicate 4 long_open))
+    ∷ from (with_startup (begun_at (Some (clock 0)) (One (clock 900)) (loaded 0x30 (clock 0))) (replicate 4 long_open))
     (read 0 1 0 ∷ []) 14 0 5 []
-    ∷ from (with_startup (begun_at (On (clock 0)) (One (clock 900)) (Loaded 0x30 (clock 0))) (replicate 4 long_open))
+    ∷ from (with_startup (begun_at (Some (clock 0)) (One (clock 900)) (loaded 0x30 (clock 0))) (replicate 4 long_open))
     (terminate 0 ∷ []) 14 0 5 []
-    ∷ from (with_startup (begun_at (On (clock 0)) None (Loaded 0x30 (clock 0))) (replicate 4 long_closed)) (active 0 1 7 ∷ [])
+    ∷ from (with_startup (begun_at (Some (clock 0)) Zero (loaded 0x30 (clock 0))) (replicate 4 long_closed)) (active 0 1 7 ∷ [])
     14 0 5 []
-    ∷ from (with_startup (begun_at (On (clock 0)) None (Loaded 0x30 (clock 0))) (replicate 4 long_closed)) (load 0 0x30 ∷ []) 14
+    ∷ from (with_startup (begun_at (Some (clock 0)) Zero (loaded 0x30 (clock 0))) (replicate 4 long_closed)) (load 0 0x30 ∷ []) 14
     0 5 []
-    ∷ from (with_startup (begun_at (On (clock 0)) None (Loaded 0x30 (clock 0))) (replicate 4 long_closed))
+    ∷ from (with_startup (begun_at (Some (clock 0)) Zero (loaded 0x30 (clock 0))) (replicate 4 long_closed))
     (refresh 0 ∷ refresh 8 ∷ load 8 0x30 ∷ []) 0 0 8 []
-    ∷ from (with_startup (begun_at (On (clock 0)) (One (clock 900)) (Loaded 0x30 (clock 0))) (replicate 4 long_closed))
+    ∷ from (with_startup (begun_at (Some (clock 0)) (One (clock 900)) (loaded 0x30 (clock 0))) (replicate 4 long_closed))
     (refresh 0 ∷ active 8 1 7 ∷ []) 0 0 7 []
     -- no PRECHARGE ALL yet, though all else is done
-    ∷ from (with_startup (begun_at Never (Two (clock 900)) (Loaded 0x30 (clock 0))) (replicate 4 long_closed))
+    ∷ from (with_startup (begun_at None (Two (clock 900)) (loaded 0x30 (clock 0))) (replicate 4 long_closed))
     (active 0 1 7 ∷ []) 14 0 5 []
-    ∷ from (with_startup (begun_at Never (Two (clock 900)) (Loaded 0x30 (clock 0))) (replicate 4 long_closed)) (refresh 0 ∷ [])
+    ∷ from (with_startup (begun_at None (Two (clock 900)) (loaded 0x30 (clock 0))) (replicate 4 long_closed)) (refresh 0 ∷ [])
     14 0 5 []
-    ∷ from (with_startup (begun_at Never (Two (clock 900)) (Loaded 0x30 (clock 0))) (replicate 4 long_closed))
+    ∷ from (with_startup (begun_at None (Two (clock 900)) (loaded 0x30 (clock 0))) (replicate 4 long_closed))
     (all_banks 0 ∷ []) 14 0 5 []
     -- the first PRECHARGE ALL: 12 and 13 before it
-    ∷ from (late (begun_at Never (Two (clock 1_844)) Unloaded) (replicate 4 no_bank)) (all_banks 0 ∷ []) 12 0 5 []
-    ∷ from (late (begun_at Never (Two (clock 1_845)) Unloaded) (replicate 4 no_bank)) (all_banks 0 ∷ []) 0 0 6 []
-    ∷ from (late (begun_at Never (One (clock 0)) Unloaded) (replicate 4 no_bank)) (all_banks 0 ∷ []) 0 0 6 []
+    ∷ from (late (begun_at None (Two (clock 1_844)) None) (replicate 4 no_bank)) (all_banks 0 ∷ []) 12 0 5 []
+    ∷ from (late (begun_at None (Two (clock 1_845)) None) (replicate 4 no_bank)) (all_banks 0 ∷ []) 0 0 6 []
+    ∷ from (late (begun_at None (One (clock 0)) None) (replicate 4 no_bank)) (all_banks 0 ∷ []) 0 0 6 []
     ∷ runs_from (table 0 0 0 99_999 0 0 0 0 0 0 0 7_812_500 0)
-    (late not_begun (replicate 4 (bank (Open 7 (clock 1_999)) Never Never))) (all_banks 0 ∷ []) 13 0 5 []
+    (late not_begun (replicate 4 (bank (Open 7 (clock 1_999)) None None))) (all_banks 0 ∷ []) 13 0 5 []
     ∷ runs_from (table 0 0 0 100_000 0 0 0 0 0 0 0 7_812_500 0)
-    (late not_begun (replicate 4 (bank (Open 7 (clock 1_999)) Never Never))) (all_banks 0 ∷ []) 0 0 6 []
+    (late not_begun (replicate 4 (bank (Open 7 (clock 1_999)) None None))) (all_banks 0 ∷ []) 0 0 6 []
     -- 13 before 14
     ∷ runs_from (table 0 0 0 99_999 0 0 0 0 0 0 0 7_812_500 0)
-    (late not_begun (replicate 4 (bank (Open 7 (clock 1_999)) Never Never))) (active 0 1 7 ∷ []) 13 0 5 []
+    (late not_begun (replicate 4 (bank (Open 7 (clock 1_999)) None None))) (active 0 1 7 ∷ []) 13 0 5 []
     -- "and has no other condition": neither 15 nor a minimum, of a refresh, a mode load, an ACTIVE, a store, a closing ahead
-    ∷ from (late (begun_at Never (One (clock 2_000)) (Loaded 0x30 (clock 2_000)))
-    (replicate 4 (bank (Open 7 (clock 2_000)) (On (clock 2_000)) (On (clock 2_000))))) (all_banks 0 ∷ []) 0 0 6 []
-    ∷ from (late (begun_at Never None Unloaded) (replicate 4 (bank (Closed (time 900_000_000)) Never Never))) (all_banks 0 ∷ [])
+    ∷ from (late (begun_at None (One (clock 2_000)) (loaded 0x30 (clock 2_000)))
+    (replicate 4 (bank (Open 7 (clock 2_000)) (Some (clock 2_000)) (Some (clock 2_000))))) (all_banks 0 ∷ []) 0 0 6 []
+    ∷ from (late (begun_at None Zero None) (replicate 4 (bank (Closed (time 900_000_000)) None None))) (all_banks 0 ∷ [])
     0 0 6 []
     -- only it: a second one needs them
-    ∷ from (late (begun_at Never None Unloaded) (replicate 4 no_bank)) (all_banks 0 ∷ all_banks 0 ∷ []) 0 0 7 []
-    ∷ runs_from (huge tRP) (late (begun_at Never None Unloaded) (replicate 4 no_bank)) (all_banks 0 ∷ all_banks 0 ∷ []) 16 tRP 6
+    ∷ from (late (begun_at None Zero None) (replicate 4 no_bank)) (all_banks 0 ∷ all_banks 0 ∷ []) 0 0 7 []
+    ∷ runs_from (huge tRP) (late (begun_at None Zero None) (replicate 4 no_bank)) (all_banks 0 ∷ all_banks 0 ∷ []) 16 tRP 6
     []
     -- 12: "no maximum is passed" by a refresh ahead; on the limit
-    ∷ from (with_startup (begun_at (On (clock 0)) (Two (clock 2_000)) Unloaded) (replicate 4 long_closed)) (nop 0 255 ∷ []) 0 0
+    ∷ from (with_startup (begun_at (Some (clock 0)) (Two (clock 2_000)) None) (replicate 4 long_closed)) (nop 0 255 ∷ []) 0 0
     6 []
     ∷ runs_from (table 0 0 0 120_000_000 0 0 0 0 0 0 0 7_499 0)
-    (with_startup (begun_at (On (clock 0)) (Two (clock 1_000)) Unloaded) (replicate 4 long_closed)) (nop 0 255 ∷ []) 12 0 5 []
+    (with_startup (begun_at (Some (clock 0)) (Two (clock 1_000)) None) (replicate 4 long_closed)) (nop 0 255 ∷ []) 12 0 5 []
     ∷ runs_from (table 0 0 0 120_000_000 0 0 0 0 0 0 0 7_500 0)
-    (with_startup (begun_at (On (clock 0)) (Two (clock 1_000)) Unloaded) (replicate 4 long_closed)) (nop 0 255 ∷ []) 0 0 6 []
+    (with_startup (begun_at (Some (clock 0)) (Two (clock 1_000)) None) (replicate 4 long_closed)) (nop 0 255 ∷ []) 0 0 6 []
     -- 16 and 14, 17 and 18: a LOAD MODE in each order
     ∷ runs_from grade_133 (with_startup (up_in 0x30) (replicate 4 long_closed)) (rec 0 LoadMode 1 0x21 255 ∷ []) 17 0 5 []
     ∷ runs_from grade_133 (with_startup (up_in 0x30) (replicate 4 long_closed)) (load 0 0x21 ∷ []) 18 0 5 []
     -- record number 2^41 is taken and is its own
-    ∷ from (state 7500 1 7 (2 ^ 41) (On (clock 1_000)) over quiet_bus two_open) (nop 0 255 ∷ []) 0 0 (2 ^ 41 + 1) []
-    ∷ from (state 7500 1 7 (2 ^ 41) (On (clock 1_000)) over quiet_bus two_open) (active 0 1 7 ∷ []) 15 0 (2 ^ 41) []
+    ∷ from (state 7500 1 7 (2 ^ 41) (Some (clock 1_000)) over quiet_bus two_open) (nop 0 255 ∷ []) 0 0 (2 ^ 41 + 1) []
+    ∷ from (state 7500 1 7 (2 ^ 41) (Some (clock 1_000)) over quiet_bus two_open) (active 0 1 7 ∷ []) 15 0 (2 ^ 41) []
     -- the first record stands on the clock equal to its skipped count
-    ∷ clean (state 7500 1 7 5 Never over (bus (burst 0 0 Never 0x31) no_reads) two_open) (nop 0 0 ∷ []) 1 (W 5 0 1 7 0 255 ∷ [])
-    ∷ clean (state 7500 1 7 5 Never over (bus (burst 0 0 Never 0x31) no_reads) two_open) (nop 1 0 ∷ []) 1 (W 5 1 1 7 1 255 ∷ [])
+    ∷ clean (state 7500 1 7 5 None over (bus (burst 0 0 None 0x31) no_reads) two_open) (nop 0 0 ∷ []) 1 (W 5 0 1 7 0 255 ∷ [])
+    ∷ clean (state 7500 1 7 5 None over (bus (burst 0 0 None 0x31) no_reads) two_open) (nop 1 0 ∷ []) 1 (W 5 1 1 7 1 255 ∷ [])
     ∷ []
 
 abbrev aheads : List (Row Outcome)
@@ -538,11 +536,11 @@ unfinished banks =
     at_1000 over
     (bus no_burst
     (in_place 0
-    (record { live = true; auto = true; bank = 1; row = 7; column = 0; start = clock 1_000; cut = Never; word = 0x33 })))
+    (record { live = true; auto = true; bank = 1; row = 7; column = 0; start = clock 1_000; cut = None; word = 0x33 })))
     banks
 
 abbrev drives_now : List Bank → State
-drives_now banks = at_1000 over (bus no_burst (in_place 0 (burst 0 998 Never 0x33))) banks
+drives_now banks = at_1000 over (bus no_burst (in_place 0 (burst 0 998 None 0x33))) banks
 
 abbrev all_closed : List Bank
 all_closed = replicate 4 long_closed

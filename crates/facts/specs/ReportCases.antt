@@ -1,7 +1,33 @@
 -- Beats as numbers, the page after a run, and the call of many records: rows from document 01's sentences and from the layout of the
 -- two words (include/hawsehole.h). Assumes nothing.
-use Rattle.std.specs.Prelude.{ℕ, ◌+◌, ◌-◌, ◌*◌, ◌^◌, ◌≡◌, refl, true, false, List, [], ◌∷◌, ◌++◌, replicate}
-use Rattle.units.specs.declared.Event.TheVariants.{Never, On}
+use Rattle.rules.specs.declared.Refusal.{Refusal}
+use Rattle.rules.specs.declared.Refusal.TheVariants.{
+  WrongLength,
+  WrongVersion,
+  WrongPeriod,
+  WrongGrade,
+  HeaderZeros,
+  WrongTable,
+  WrongPage,
+  RecordZeros,
+  CkeLow,
+  LateRefresh,
+  LongRow,
+  StartUpStep,
+  BankState,
+  ReservedMode,
+  ShortClock,
+  UnfinishedBurst,
+  BusNotClear,
+  EndlessBurst,
+  LateClosing,
+  HighClock,
+  UnfitState,
+  TooSoon,
+}
+use Rattle.rules.specs.declared.Interval.TheVariants.{Rcd, Ras, Rc, Rp, Rrd, Rfc, Wr, Mrd}
+use Rattle.rules.specs.Numbers.{Verdict, number, interval, number_of, interval_of}
+use Rattle.std.specs.Prelude.{ℕ, ◌+◌, ◌-◌, ◌*◌, ◌^◌, ◌≡◌, refl, true, false, List, [], ◌∷◌, ◌++◌, replicate, None, Some, Ok, Err}
 use Rattle.units.specs.declared.Module.TheVariants.{Bench, Handheld}
 use Rattle.units.specs.Time.{clock}
 use Rattle.units.specs.Module.{module_of}
@@ -32,8 +58,6 @@ use Rattle.bursts.specs.Cases.{Row, ◌gives◌, found, expected}
 use Rattle.page.specs.Store.{put_lanes, stored}
 use Rattle.rules.specs.declared.Status.TheVariants.{Open}
 use Rattle.rules.specs.declared.State.{State}
-use Rattle.rules.specs.declared.Verdict.{Verdict}
-use Rattle.rules.specs.declared.Verdict.TheVariants.{Taken, Refused}
 use Rattle.rules.specs.Parts.{no_bank}
 use Rattle.rules.specs.StartUp.{allowed}
 use Rattle.rules.specs.Banks.{banks_found}
@@ -162,13 +186,13 @@ pages =
 -- record `number` comes after clock 1,000; a WRITE of the watched row, from column 0 in mode 0037, has run since 1,000
 abbrev running : ℕ → State
 running number =
-    state 7500 1 7 number (On (clock 1_000)) over
+    state 7500 1 7 number (Some (clock 1_000)) over
     (record {
-      write = record { live = true; auto = false; bank = 1; row = 7; column = 0; start = clock 1_000; cut = Never; word = 0x37 };
+      write = record { live = true; auto = false; bank = 1; row = 7; column = 0; start = clock 1_000; cut = None; word = 0x37 };
       reads = no_reads;
       masks = all_masks_high;
     })
-    (no_bank ∷ bank (Open 7 (clock 900)) (On (clock 900)) Never ∷ no_bank ∷ no_bank ∷ [])
+    (no_bank ∷ bank (Open 7 (clock 900)) (Some (clock 900)) None ∷ no_bank ∷ no_bank ∷ [])
 
 abbrev left : Verdict → ℕ → List ℕ → List ℕ → Left
 left v reported page beats = record { ran = record { verdict = v; reported = reported }; page = page; beats = beats }
@@ -184,15 +208,15 @@ abbrev folds : List (Row Left)
 folds =
     -- "A clean trace gives number 0 and its record count", here of the state's number on; a beat on 1,001 in column 1, on 1,002 in column 2
     folded (ones_to_eight ∷ data_of 9 ∷ []) (replicate 7 3)
-    gives left Taken 3
+    gives left (Ok tt) 3
     (replicate 8 0 ++ (1 ∷ 2 ∷ 3 ∷ 4 ∷ 5 ∷ 6 ∷ 7 ∷ 8 ∷ 9 ∷ []) ++ replicate 15 0)
     (3 ∷ 3 ∷ word_of 1 ∷ 1_001 ∷ word_of 2 ∷ 1_002 ∷ 3 ∷ [])
     -- "the page holds the stores of the records before it, .. and nothing after it is read"
     ∷ folded (ones_to_eight ∷ active 0 1 7 ∷ data_of 9 ∷ []) (replicate 7 3)
-    gives left (Refused 15 0) 2
+    gives left (Err BankState) 2
     (replicate 8 0 ++ (1 ∷ 2 ∷ 3 ∷ 4 ∷ 5 ∷ 6 ∷ 7 ∷ 8 ∷ []) ++ replicate 16 0)
     (3 ∷ 3 ∷ word_of 1 ∷ 1_001 ∷ 3 ∷ 3 ∷ 3 ∷ [])
-    ∷ folded [] (3 ∷ []) gives left Taken 1 (replicate 32 0) (3 ∷ [])
+    ∷ folded [] (3 ∷ []) gives left (Ok tt) 1 (replicate 32 0) (3 ∷ [])
     ∷ []
 
 -- ── The call of many records ──
@@ -219,10 +243,10 @@ abbrev zeros : List ℕ
 zeros = replicate 16384 0
 
 -- refused before any record: with this table, page and state
-abbrev unasked : SpeedTable → ℕ → State → List ℕ → ℕ → Row Left
-unasked t lent s bytes number =
+abbrev unasked : SpeedTable → ℕ → State → List ℕ → Refusal → Row Left
+unasked t lent s bytes why =
     records_call (record { table = t }) s bytes (replicate lent 0) (3 ∷ 3 ∷ [])
-    gives left (Refused number 0) 0 (replicate lent 0) (3 ∷ 3 ∷ [])
+    gives left (Err why) 0 (replicate lent 0) (3 ∷ 3 ∷ [])
 
 -- "a time above 200,000,000"
 abbrev unfit : SpeedTable
@@ -230,41 +254,41 @@ unfit = table 10_000 7_500 44_000 120_000_000 66_000 20_000 20_000 15_000 66_000
 
 -- a state that 25 refuses, of this period and grade
 abbrev wrong : ℕ → ℕ → State
-wrong period grade = of_grade grade (state period 1 7 (2 ^ 41 + 1) Never over quiet_bus (no_bank ∷ no_bank ∷ no_bank ∷ no_bank ∷ []))
+wrong period grade = of_grade grade (state period 1 7 (2 ^ 41 + 1) None over quiet_bus (no_bank ∷ no_bank ∷ no_bank ∷ no_bank ∷ []))
 
 abbrev many : List (Row Left)
 many =
-    calls (running 0) (nop_bytes ++ nop_bytes) Taken 2 after_two (word_of 1 ∷ 1_001 ∷ word_of 2 ∷ 1_002 ∷ 3 ∷ 3 ∷ [])
-    ∷ calls (running 1) nop_bytes Taken 2 after_one (3 ∷ 3 ∷ word_of 1 ∷ 1_001 ∷ 3 ∷ 3 ∷ [])
-    ∷ calls (running 1) (nop_bytes ++ active_bytes ++ nop_bytes) (Refused 15 0) 2 after_one
+    calls (running 0) (nop_bytes ++ nop_bytes) (Ok tt) 2 after_two (word_of 1 ∷ 1_001 ∷ word_of 2 ∷ 1_002 ∷ 3 ∷ 3 ∷ [])
+    ∷ calls (running 1) nop_bytes (Ok tt) 2 after_one (3 ∷ 3 ∷ word_of 1 ∷ 1_001 ∷ 3 ∷ 3 ∷ [])
+    ∷ calls (running 1) (nop_bytes ++ active_bytes ++ nop_bytes) (Err BankState) 2 after_one
     (3 ∷ 3 ∷ word_of 1 ∷ 1_001 ∷ 3 ∷ 3 ∷ [])
-    ∷ calls (running 7) [] Taken 7 zeros (replicate 6 3)
+    ∷ calls (running 7) [] (Ok tt) 7 zeros (replicate 6 3)
     -- from record number 2^41: the first as from the one-record call, a second gets 25 with record 0; a refused first one ends it
-    ∷ calls (running (2 ^ 41)) nop_bytes Taken (2 ^ 41 + 1) after_one (replicate 6 3)
-    ∷ calls (running (2 ^ 41)) (nop_bytes ++ nop_bytes) (Refused 25 0) 0 after_one (replicate 6 3)
-    ∷ calls (running (2 ^ 41)) (nop_bytes ++ active_bytes) (Refused 25 0) 0 after_one (replicate 6 3)
-    ∷ calls (running (2 ^ 41)) (active_bytes ++ nop_bytes) (Refused 15 0) (2 ^ 41) zeros (replicate 6 3)
-    ∷ calls (running (2 ^ 41)) [] Taken (2 ^ 41) zeros (replicate 6 3)
+    ∷ calls (running (2 ^ 41)) nop_bytes (Ok tt) (2 ^ 41 + 1) after_one (replicate 6 3)
+    ∷ calls (running (2 ^ 41)) (nop_bytes ++ nop_bytes) (Err UnfitState) 0 after_one (replicate 6 3)
+    ∷ calls (running (2 ^ 41)) (nop_bytes ++ active_bytes) (Err UnfitState) 0 after_one (replicate 6 3)
+    ∷ calls (running (2 ^ 41)) (active_bytes ++ nop_bytes) (Err BankState) (2 ^ 41) zeros (replicate 6 3)
+    ∷ calls (running (2 ^ 41)) [] (Ok tt) (2 ^ 41) zeros (replicate 6 3)
     -- one before
-    ∷ calls (running (2 ^ 41 - 1)) (nop_bytes ++ nop_bytes) Taken (2 ^ 41 + 1) after_two (replicate 6 3)
-    ∷ calls (running (2 ^ 41 - 1)) (nop_bytes ++ nop_bytes ++ nop_bytes) (Refused 25 0) 0 after_two (replicate 6 3)
-    ∷ calls (running (2 ^ 41 - 1)) (nop_bytes ++ active_bytes ++ nop_bytes) (Refused 15 0) (2 ^ 41) after_one (replicate 6 3)
+    ∷ calls (running (2 ^ 41 - 1)) (nop_bytes ++ nop_bytes) (Ok tt) (2 ^ 41 + 1) after_two (replicate 6 3)
+    ∷ calls (running (2 ^ 41 - 1)) (nop_bytes ++ nop_bytes ++ nop_bytes) (Err UnfitState) 0 after_two (replicate 6 3)
+    ∷ calls (running (2 ^ 41 - 1)) (nop_bytes ++ active_bytes ++ nop_bytes) (Err BankState) (2 ^ 41) after_one (replicate 6 3)
     -- 2^41 + 1: 25 before any
-    ∷ calls (running (2 ^ 41 + 1)) nop_bytes (Refused 25 0) 0 zeros (replicate 6 3)
-    ∷ calls (running (2 ^ 41 + 1)) [] (Refused 25 0) 0 zeros (replicate 6 3)
+    ∷ calls (running (2 ^ 41 + 1)) nop_bytes (Err UnfitState) 0 zeros (replicate 6 3)
+    ∷ calls (running (2 ^ 41 + 1)) [] (Err UnfitState) 0 zeros (replicate 6 3)
     -- 1, 3, 4, 6, 7 and 25 in this order: all faults at once, mended one by one
-    ∷ unasked unfit 16383 (wrong 999 3) (replicate 15 0) 1
-    ∷ unasked unfit 16383 (wrong 999 3) (replicate 17 0) 1
-    ∷ unasked unfit 16383 (wrong 999 3) (replicate 8 0) 1
-    ∷ unasked unfit 16383 (wrong 999 3) (replicate 24 0) 1
-    ∷ unasked unfit 16383 (wrong 999 3) nop_bytes 3
-    ∷ unasked unfit 16383 (wrong 65_536 3) (nop_bytes ++ nop_bytes) 3
-    ∷ unasked unfit 16383 (wrong 1_000 3) nop_bytes 4
-    ∷ unasked unfit 16383 (wrong 65_535 2) nop_bytes 6
-    ∷ unasked grade_133 16383 (wrong 7_500 2) nop_bytes 7
-    ∷ unasked grade_133 16385 (wrong 7_500 1) nop_bytes 7
-    ∷ unasked grade_133 16384 (wrong 7_500 2) nop_bytes 25
-    ∷ unasked grade_133 16384 (wrong 7_500 2) [] 25
+    ∷ unasked unfit 16383 (wrong 999 3) (replicate 15 0) WrongLength
+    ∷ unasked unfit 16383 (wrong 999 3) (replicate 17 0) WrongLength
+    ∷ unasked unfit 16383 (wrong 999 3) (replicate 8 0) WrongLength
+    ∷ unasked unfit 16383 (wrong 999 3) (replicate 24 0) WrongLength
+    ∷ unasked unfit 16383 (wrong 999 3) nop_bytes WrongPeriod
+    ∷ unasked unfit 16383 (wrong 65_536 3) (nop_bytes ++ nop_bytes) WrongPeriod
+    ∷ unasked unfit 16383 (wrong 1_000 3) nop_bytes WrongGrade
+    ∷ unasked unfit 16383 (wrong 65_535 2) nop_bytes WrongTable
+    ∷ unasked grade_133 16383 (wrong 7_500 2) nop_bytes WrongPage
+    ∷ unasked grade_133 16385 (wrong 7_500 1) nop_bytes WrongPage
+    ∷ unasked grade_133 16384 (wrong 7_500 2) nop_bytes UnfitState
+    ∷ unasked grade_133 16384 (wrong 7_500 2) [] UnfitState
     ∷ []
 
 -- ── The state that it leaves ──
@@ -292,6 +316,44 @@ moves =
     ∷ moved (2 ^ 41 - 1) (nop_bytes ++ nop_bytes ++ nop_bytes) (2 ^ 41 + 1)
     ∷ []
 
+-- the verdict table's numbers, with the interval of 16: "1 tRCD, 2 tRAS, 3 tRC, 4 tRP, 5 tRRD, 6 tRFC, 7 tWR, 8 tMRD"
+abbrev numbered : Refusal → ℕ → ℕ → Row (List ℕ)
+numbered w n i = (number w ∷ interval w ∷ number_of (Err w) ∷ interval_of (Err w) ∷ []) gives (n ∷ i ∷ n ∷ i ∷ [])
+
+abbrev refusals : List (Row (List ℕ))
+refusals =
+    ((number_of (Ok tt) ∷ interval_of (Ok tt) ∷ []) gives (0 ∷ 0 ∷ []))
+    ∷ numbered WrongLength 1 0
+    ∷ numbered WrongVersion 2 0
+    ∷ numbered WrongPeriod 3 0
+    ∷ numbered WrongGrade 4 0
+    ∷ numbered HeaderZeros 5 0
+    ∷ numbered WrongTable 6 0
+    ∷ numbered WrongPage 7 0
+    ∷ numbered RecordZeros 10 0
+    ∷ numbered CkeLow 11 0
+    ∷ numbered LateRefresh 12 0
+    ∷ numbered LongRow 13 0
+    ∷ numbered StartUpStep 14 0
+    ∷ numbered BankState 15 0
+    ∷ numbered (TooSoon Rcd) 16 1
+    ∷ numbered (TooSoon Ras) 16 2
+    ∷ numbered (TooSoon Rc) 16 3
+    ∷ numbered (TooSoon Rp) 16 4
+    ∷ numbered (TooSoon Rrd) 16 5
+    ∷ numbered (TooSoon Rfc) 16 6
+    ∷ numbered (TooSoon Wr) 16 7
+    ∷ numbered (TooSoon Mrd) 16 8
+    ∷ numbered ReservedMode 17 0
+    ∷ numbered ShortClock 18 0
+    ∷ numbered UnfinishedBurst 19 0
+    ∷ numbered BusNotClear 20 0
+    ∷ numbered EndlessBurst 21 0
+    ∷ numbered LateClosing 22 0
+    ∷ numbered HighClock 23 0
+    ∷ numbered UnfitState 25 0
+    ∷ []
+
 pub report_right :
     (found words ≡ expected words)
     × (found places ≡ expected places)
@@ -300,5 +362,6 @@ pub report_right :
     × (found many ≡ expected many)
     × (found unmoved ≡ expected unmoved)
     × (found moves ≡ expected moves)
+    × (found refusals ≡ expected refusals)
 unfolding module_of column_on has_pins lane_masks table_fits record_from records_of length_of beat_column has_beat write_beat read_beat finished masks_on masks_after reads_from bus_after beat_on bursts_finished driven bus_clear put_lanes stored allowed banks_found of_closing of_any of_active of_access of_precharged of_precharge of_idle events minima every_rules place_rules minimum_rules mode_rules bus_rules command_rules rules ask startup_after beat core_from core_after bank_after commanded mark_banks banks_after next page_after bank_fits burst_fits core_fits fits state_rules beat_word put_line lines_into run all_taken fold records_rules records_lent call_run
-report_right = (refl, refl, refl, refl, refl, refl, refl)
+report_right = (refl, refl, refl, refl, refl, refl, refl, refl)

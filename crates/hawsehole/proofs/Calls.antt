@@ -1,4 +1,5 @@
 -- The whole-trace call by what it finds before the first record. Assumes nothing.
+use Rattle.std.specs.Prelude.{Ok, Err}
 use Prim.Native.Nat.{ℕ, ◌+◌, ◌*◌, ◌/◌, ◌%◌, ◌-◌}
 use native.Mathlib.Omega.{arith}
 use mathlib.Core.Path.{◌≡◌, ap, sym, ◌∙◌}
@@ -12,10 +13,10 @@ use Rattle.layout.specs.declared.Header.{Header}
 use Rattle.layout.specs.Bytes.{header_of, read_header, header_number, records_of}
 use Rattle.layout.proofs.ReadBack.{ReadHead}
 use Rattle.layout.proofs.Widths.{header_fits}
+use Rattle.rules.specs.declared.Refusal.{Refusal}
+use Rattle.rules.specs.declared.Refusal.TheVariants.{WrongLength}
 use Rattle.rules.specs.declared.Setup.{Setup}
-use Rattle.rules.specs.declared.Verdict.{Verdict}
-use Rattle.rules.specs.declared.Verdict.TheVariants.{Taken, Refused}
-use Rattle.rules.specs.Numbers.{rule, first_broken}
+use Rattle.rules.specs.Numbers.{rule, first_broken, Verdict}
 use Rattle.rules.specs.OneRecord.{state_rules}
 use Rattle.rules.specs.Report.{lines_into, left, ran, fold, records_rules, room, records_call}
 use Rattle.rules.proofs.Admitted.{fits_admitted}
@@ -29,25 +30,25 @@ use Rattle.hawsehole.proofs.InTime.{start_of_admitted}
 
 -- ── Row 1 ──
 
-pub too_short : (u : Setup) (trace page : List ℕ) → eqb (header_number (read_header trace)) 0 ≡ false → entry u trace page ≡ Refused 1 0
+pub too_short : (u : Setup) (trace page : List ℕ) → eqb (header_number (read_header trace)) 0 ≡ false → entry u trace page ≡ Err WrongLength
 too_short u trace page h = rw h
 
 -- a trace that passes 1 to 7 has a header, and passes them by it
-pub by_header : (u : Setup) (trace page : List ℕ) → entry u trace page ≡ Taken
-    → first_broken (whole_rules u (header_of trace) (length trace) (length page)) ≡ Taken
+pub by_header : (u : Setup) (trace page : List ℕ) → entry u trace page ≡ Ok tt
+    → first_broken (whole_rules u (header_of trace) (length trace) (length page)) ≡ Ok tt
 by_header u trace page p = go (eqb (header_number (read_header trace)) 0) p
   where
-    go : (x : Bool) → first_broken (rule 1 0 x ∷ whole_rules u (header_of trace) (length trace) (length page)) ≡ Taken
-        → first_broken (whole_rules u (header_of trace) (length trace) (length page)) ≡ Taken
+    go : (x : Bool) → first_broken (rule WrongLength x ∷ whole_rules u (header_of trace) (length trace) (length page)) ≡ Ok tt
+        → first_broken (whole_rules u (header_of trace) (length trace) (length page)) ≡ Ok tt
     go true q = q
     go false q = let z : ◌≡◌ {A = ℕ} 0 1 = cc in absurd (omega arith)
 
 -- ── The call ──
 
-pub call_refused : (u : Setup) (trace page beats : List ℕ) (n i : ℕ) → entry u trace page ≡ Refused n i
-    → whole_call u trace page beats ≡ left (ran (Refused n i) 0) page beats
+pub call_refused : (u : Setup) (trace page beats : List ℕ) (w : Refusal) → entry u trace page ≡ Err w
+    → whole_call u trace page beats ≡ left (ran (Err w) 0) page beats
 unfolding whole_call lines_into
-call_refused u trace page beats n i p = rw (judge_refused u trace page n i p)
+call_refused u trace page beats w p = rw (judge_refused u trace page w p)
 
 -- the entry, by a header that was read
 pub entry_read : (u : Setup) (trace page : List ℕ) (h : Header) (v : Verdict) → ReadHead trace h
@@ -55,7 +56,7 @@ pub entry_read : (u : Setup) (trace page : List ℕ) (h : Header) (v : Verdict) 
 entry_read u trace page h v w p =
     rw w.passes (ap (λ (x : Header). first_broken (whole_rules u x (length trace) (length page))) (sym w.read) ∙ p)
 
-module _ (u : Setup) (trace page beats : List ℕ) (p : entry u trace page ≡ Taken) where
+module _ (u : Setup) (trace page beats : List ℕ) (p : entry u trace page ≡ Ok tt) where
   long : length trace ≡ 16 + 16 * (header_of trace).count
   unfolding whole_rules
   long =
@@ -65,7 +66,7 @@ module _ (u : Setup) (trace page beats : List ℕ) (p : entry u trace page ≡ T
   rest_long = simp length-drop (omega (arith, long))
 
   -- the start state passes what the call of many records tries
-  pub enters : first_broken (records_rules u (start_of (header_of trace)) (length (drop 16 trace)) (length page)) ≡ Taken
+  pub enters : first_broken (records_rules u (start_of (header_of trace)) (length (drop 16 trace)) (length page)) ≡ Ok tt
   unfolding records_rules state_rules whole_rules lent_rules
   enters =
       let l = whole_rules u (header_of trace) (length trace) (length page) in

@@ -1,4 +1,6 @@
 -- DEMAND 3 of the whole-trace judge, from its bytes. Assumes nothing.
+use Rattle.rules.specs.Numbers.{Verdict}
+use Rattle.std.specs.Prelude.{Ok, Err}
 use Prim.Native.Nat.{ℕ, ◌≤◌}
 use native.Mathlib.Omega.{arith}
 use mathlib.Core.Path.{◌≡◌, refl, ap, sym, ◌∙◌}
@@ -9,8 +11,6 @@ use lib.Seq.{take-append-le, take_at}
 use Rattle.speed.specs.declared.SpeedTable.{SpeedTable}
 use Rattle.speed.specs.Table.{table_fits}
 use Rattle.layout.specs.Bytes.{header_of}
-use Rattle.rules.specs.declared.Verdict.{Verdict}
-use Rattle.rules.specs.declared.Verdict.TheVariants.{Taken, Refused}
 use Rattle.rules.specs.Run.{Line}
 use Rattle.rules.specs.Harder.{NowhereHarder}
 use Rattle.rules.proofs.Easier.{setup}
@@ -24,7 +24,7 @@ pub record FollowsWhole (a b : Judged) : Type 0 where
   pub more : List Line
   pub lines : b.lines ≡ a.lines ++ more
   pub no_earlier : a.reported ≤ b.reported
-  pub clean : a.verdict ≡ Taken → a ≡ b
+  pub clean : a.verdict ≡ Ok tt → a ≡ b
 
 follows_self : (a : Judged) → FollowsWhole a a
 follows_self a = record { more = []; lines = simp append-nil; no_earlier = omega arith; clean = λ h. refl }
@@ -40,12 +40,12 @@ module _ {t u : SpeedTable} (e : NowhereHarder t u) (fit-t : table_fits t ≡ tr
   demand_3_whole = go (entry (setup t) trace page) refl
     where
       go : (v : Verdict) → entry (setup t) trace page ≡ v → FollowsWhole (judge (setup t) trace page) (judge (setup u) trace page)
-      go Taken p =
+      go (Ok o) p =
           let f = demand_3 e (start_of (header_of trace)) (records trace) in
           rw (judge_entered (setup t) trace page p, judge_entered (setup u) trace page (sym entry_alike ∙ p))
           (record { more = f.more; lines = f.lines; no_earlier = f.no_earlier; clean = λ h. ap (judged trace page) (f.clean h) })
-      go (Refused n i) p =
-          rw (judge_refused (setup t) trace page n i p, judge_refused (setup u) trace page n i (sym entry_alike ∙ p)) (follows_self (refused n i page))
+      go (Err w) p =
+          rw (judge_refused (setup t) trace page w p, judge_refused (setup u) trace page w (sym entry_alike ∙ p)) (follows_self (refused w page))
 
   -- the page agrees at each record up to the first table's stop
   pub pages_agree : (k : ℕ) → k ≤ length (judge (setup t) trace page).lines → page_when (setup t) trace page k ≡ page_when (setup u) trace page k

@@ -1,4 +1,5 @@
 -- The calls of the live monitor, by what they find. Assumes nothing.
+use Rattle.std.specs.Prelude.{Ok, Err}
 use Prim.Native.Nat.{ℕ, ◌%◌, ◌^◌, ◌≤◌, ◌<◌}
 use native.Mathlib.Omega.{arith}
 use mathlib.Core.Path.{◌≡◌, refl, ap, sym, ◌∙◌}
@@ -15,12 +16,12 @@ use Rattle.units.proofs.Both.{both}
 use Rattle.speed.specs.Table.{table_fits}
 use Rattle.units.specs.declared.Clock.{Clock}
 use Rattle.bursts.specs.declared.Beat.{Beat}
+use Rattle.rules.specs.declared.Refusal.{Refusal}
+use Rattle.rules.specs.declared.Refusal.TheVariants.{WrongLength, WrongPeriod, WrongGrade, WrongTable, WrongPage, UnfitState}
 use Rattle.rules.specs.declared.State.{State}
 use Rattle.rules.specs.declared.Setup.{Setup}
 use Rattle.rules.specs.declared.Answer.{Answer}
-use Rattle.rules.specs.declared.Verdict.{Verdict}
-use Rattle.rules.specs.declared.Verdict.TheVariants.{Taken, Refused}
-use Rattle.rules.specs.Numbers.{Rule, rule, first_broken, number_of, interval_of}
+use Rattle.rules.specs.Numbers.{Rule, rule, first_broken, number_of, interval_of, Verdict, number, interval}
 use Rattle.layout.specs.declared.Record.{Record}
 use Rattle.layout.specs.Commands.{command, executable}
 use Rattle.layout.proofs.ReadBack.{sixteen_pass}
@@ -39,12 +40,12 @@ use Rattle.hawsehole.specs.Monitor.{place_rules, grade_rules, start_rules, start
 -- ── A last rule after others ──
 
 -- what the others refuse it leaves
-pub then_words : (l : List Rule) (x : Bool) {n i : ℕ} → first_broken l ≡ Refused n i → first_broken (l ++ (rule 25 0 x ∷ [])) ≡ Refused n i
-then_words l x h = first_join l (rule 25 0 x ∷ []) ∙ ap (λ (v : Verdict). then v (first_broken (rule 25 0 x ∷ []))) h
+pub then_words : (l : List Rule) (x : Bool) {w : Refusal} → first_broken l ≡ Err w → first_broken (l ++ (rule UnfitState x ∷ [])) ≡ Err w
+then_words l x h = first_join l (rule UnfitState x ∷ []) ∙ ap (λ (v : Verdict). then v (first_broken (rule UnfitState x ∷ []))) h
 
 -- where they all pass it decides
-pub words_last : (l : List Rule) (x : Bool) → first_broken l ≡ Taken → first_broken (l ++ (rule 25 0 x ∷ [])) ≡ first_broken (rule 25 0 x ∷ [])
-words_last l x h = first_join l (rule 25 0 x ∷ []) ∙ ap (λ (v : Verdict). then v (first_broken (rule 25 0 x ∷ []))) h
+pub words_last : (l : List Rule) (x : Bool) → first_broken l ≡ Ok tt → first_broken (l ++ (rule UnfitState x ∷ [])) ≡ first_broken (rule UnfitState x ∷ [])
+words_last l x h = first_join l (rule UnfitState x ∷ []) ∙ ap (λ (v : Verdict). then v (first_broken (rule UnfitState x ∷ []))) h
 
 -- ── Before the first record ──
 
@@ -65,7 +66,7 @@ pub record Fits (grade bank row : ℕ) : Type 0 where
   pub bank_fits : bank < 256
   pub row_fits : row < 65_536
 
-pub start_fits : (words period grade bank row : ℕ) → first_broken (start_rules words period grade bank row) ≡ Taken → Fits grade bank row
+pub start_fits : (words period grade bank row : ℕ) → first_broken (start_rules words period grade bank row) ≡ Ok tt → Fits grade bank row
 unfolding start_rules grade_rules place_rules
 start_fits words period grade bank row p =
     let l = start_rules words period grade bank row in
@@ -83,12 +84,12 @@ start_fits words period grade bank row p =
     rows_most Handheld = omega arith
 
 module _ (words : List ℕ) (period grade bank row : ℕ) where
-  pub start_out : (n i : ℕ) → first_broken (start_rules (length words) period grade bank row) ≡ Refused n i
-      → start_call words period grade bank row ≡ started n words
+  pub start_out : (w : Refusal) → first_broken (start_rules (length words) period grade bank row) ≡ Err w
+      → start_call words period grade bank row ≡ started (number w) words
   unfolding start_call
-  start_out n i p = rw (p, start_call)
+  start_out w p = rw (p, start_call)
 
-  pub start_in : first_broken (start_rules (length words) period grade bank row) ≡ Taken
+  pub start_in : first_broken (start_rules (length words) period grade bank row) ≡ Ok tt
       → start_call words period grade bank row ≡ started 0 (put_words (words_of (start (time period) grade bank row)) words)
   unfolding start_call
   start_in p = rw (p, start_call)
@@ -100,47 +101,49 @@ abbrev pub unheld_word : ℕ → ℕ
 unheld_word n = cond (eqb n 0) 25 (cond (ltb n 8) n 25)
 
 -- what a record is asked has numbers from 10 on
-large_number : (u : Setup) (s : State) (r : Record) (n i : ℕ) → ask u s r ≡ Refused n i → leb 8 n ≡ true
+large_number : (u : Setup) (s : State) (r : Record) (w : Refusal) → ask u s r ≡ Err w → leb 8 (number w) ≡ true
 unfolding ask rules every_rules command_rules bank-rules minimum_rules mode_rules bus_rules
-large_number u s r n i p =
-    broken_number (λ m. leb 8 m) (rules_of u s r) n i (numbers_asked (λ m. leb 8 m) (executable (command r)) (command_rules_of u s r) refl) p
+large_number u s r w p =
+    broken_number (λ m. leb 8 m) (rules_of u s r) w (numbers_asked (λ m. leb 8 m) (executable (command r)) (command_rules_of u s r) refl) p
 
 large_word : (n : ℕ) → 8 ≤ n → unheld_word n ≡ 25
 large_word n h = rw (ne_eqb n 0 (λ e. omega (arith, e, h)), le-ltb n 8 h)
 
-told : (m j : ℕ) {n i : ℕ} → ◌≡◌ {A = Verdict} (Refused m j) (Refused n i) → word_of m j 0 ≡ unheld_word m → word_of n i 0 ≡ unheld_word n
-told m j h e =
-    let p : m ≡ _ = ap number_of h in
-    let q : j ≡ _ = ap interval_of h in
+told : (v : Refusal) {w : Refusal} → ◌≡◌ {A = Verdict} (Err v) (Err w) → word_of (number v) (interval v) 0 ≡ unheld_word (number v)
+    → word_of (number w) (interval w) 0 ≡ unheld_word (number w)
+told v h e =
+    let p : number v ≡ _ = ap number_of h in
+    let q : interval v ≡ _ = ap interval_of h in
     rw (← p, ← q) e
 
 -- what is asked of a state has these numbers
-state_word : (a b c d e : Bool) {n i : ℕ}
-    → first_broken (rule 3 0 a ∷ rule 4 0 b ∷ rule 6 0 c ∷ rule 7 0 d ∷ rule 25 0 e ∷ []) ≡ Refused n i → word_of n i 0 ≡ unheld_word n
-state_word false b c d e h = told 3 0 h refl
-state_word true false c d e h = told 4 0 h refl
-state_word true true false d e h = told 6 0 h refl
-state_word true true true false e h = told 7 0 h refl
-state_word true true true true false h = told 25 0 h refl
+state_word : (a b c d e : Bool) {w : Refusal}
+    → first_broken (rule WrongPeriod a ∷ rule WrongGrade b ∷ rule WrongTable c ∷ rule WrongPage d ∷ rule UnfitState e ∷ []) ≡ Err w
+    → word_of (number w) (interval w) 0 ≡ unheld_word (number w)
+state_word false b c d e h = told WrongPeriod h refl
+state_word true false c d e h = told WrongGrade h refl
+state_word true true false d e h = told WrongTable h refl
+state_word true true true false e h = told WrongPage h refl
+state_word true true true true false h = told UnfitState h refl
 state_word true true true true true h = let z : ◌≡◌ {A = ℕ} 0 1 = cc in absurd (omega arith)
 
 module _ (u : Setup) (words bytes page : List ℕ) where
-  pub ask_out : (n i : ℕ) → first_broken (monitor_rules u words (length bytes) (length page)) ≡ Refused n i → ask_words u words bytes page ≡ word_of n i 0
+  pub ask_out : (w : Refusal) → first_broken (monitor_rules u words (length bytes) (length page)) ≡ Err w → ask_words u words bytes page ≡ word_of (number w) (interval w) 0
   unfolding ask_words
-  ask_out n i p = rw (p, ask_words)
+  ask_out w p = rw (p, ask_words)
 
-  pub ask_in : first_broken (monitor_rules u words (length bytes) (length page)) ≡ Taken
+  pub ask_in : first_broken (monitor_rules u words (length bytes) (length page)) ≡ Ok tt
       → ask_words u words bytes page ≡ word_for (ask_call u (state_in words) bytes page)
   unfolding ask_words
   ask_in p = rw (p, ask_words)
 
   pub ask_short : (length bytes ≡ 16 → ⊥) → 1 ≡ ask_words u words bytes page
   unfolding monitor_rules
-  ask_short h = sym (ask_out 1 0 (rw (ne_eqb (length bytes) 16 h)))
+  ask_short h = sym (ask_out WrongLength (rw (ne_eqb (length bytes) 16 h)))
 
   pub ask_few : length bytes ≡ 16 → (length words ≡ state_words → ⊥) → 25 ≡ ask_words u words bytes page
   unfolding monitor_rules
-  ask_few e h = sym (ask_out 25 0 (rw (eq-eqb (length bytes) 16 e, ne_eqb (length words) state_words h)))
+  ask_few e h = sym (ask_out UnfitState (rw (eq-eqb (length bytes) 16 e, ne_eqb (length words) state_words h)))
 
   -- one record and the words of one state, by whether they hold it
   module _ (sixteen : length bytes ≡ 16) (all : length words ≡ state_words) where
@@ -150,7 +153,7 @@ module _ (u : Setup) (words bytes page : List ℕ) where
     abbrev of_state : List Rule
     of_state = state_rules u s (length page)
 
-    past_first : first_broken (monitor_rules u words (length bytes) (length page)) ≡ first_broken (of_state ++ (rule 25 0 (holds words) ∷ []))
+    past_first : first_broken (monitor_rules u words (length bytes) (length page)) ≡ first_broken (of_state ++ (rule UnfitState (holds words) ∷ []))
     unfolding monitor_rules
     past_first = rw (eq-eqb (length bytes) 16 sixteen, eq-eqb (length words) state_words all)
 
@@ -165,35 +168,35 @@ module _ (u : Setup) (words bytes page : List ℕ) where
         same : first_broken (monitor_rules u words (length bytes) (length page)) ≡ first_broken of_state
         same =
             past_first
-            ∙ ap (λ (x : Bool). first_broken (of_state ++ (rule 25 0 x ∷ []))) h
-            ∙ first_join of_state (rule 25 0 true ∷ [])
+            ∙ ap (λ (x : Bool). first_broken (of_state ++ (rule UnfitState x ∷ []))) h
+            ∙ first_join of_state (rule UnfitState true ∷ [])
             ∙ then_taken (first_broken of_state)
 
         go : (v : Verdict) → first_broken of_state ≡ v → word_for (ask_call u s bytes page) ≡ ask_words u words bytes page
-        go Taken p = sym (ask_in (same ∙ p))
-        go (Refused n i) p = ap word_for (asked_out u s bytes page n i (entry_is ∙ p)) ∙ sym (ask_out n i (same ∙ p))
+        go (Ok o) p = sym (ask_in (same ∙ p))
+        go (Err w) p = ap word_for (asked_out u s bytes page w (entry_is ∙ p)) ∙ sym (ask_out w (same ∙ p))
 
     -- they do not
-    pub unheld_ask : holds words ≡ false → unheld_word (ask_call u s bytes page).number ≡ ask_words u words bytes page
+    pub unheld_ask : holds words ≡ false → unheld_word (number_of (ask_call u s bytes page).verdict) ≡ ask_words u words bytes page
     unfolding state_rules
     unheld_ask h = go (first_broken of_state) refl
       where
-        last : first_broken (monitor_rules u words (length bytes) (length page)) ≡ first_broken (of_state ++ (rule 25 0 false ∷ []))
-        last = past_first ∙ ap (λ (x : Bool). first_broken (of_state ++ (rule 25 0 x ∷ []))) h
+        last : first_broken (monitor_rules u words (length bytes) (length page)) ≡ first_broken (of_state ++ (rule UnfitState false ∷ []))
+        last = past_first ∙ ap (λ (x : Bool). first_broken (of_state ++ (rule UnfitState x ∷ []))) h
 
         look : (v : Verdict) → ask u s (record_for s bytes) ≡ v → unheld_word (number_of v) ≡ 25
-        look Taken q = refl
-        look (Refused n i) q = large_word n (leb-true 8 n (large_number u s (record_for s bytes) n i q))
+        look (Ok o) q = refl
+        look (Err w) q = large_word (number w) (leb-true 8 (number w) (large_number u s (record_for s bytes) w q))
 
-        go : (v : Verdict) → first_broken of_state ≡ v → unheld_word (ask_call u s bytes page).number ≡ ask_words u words bytes page
-        go Taken p =
-            ap (λ (a : Answer). unheld_word a.number) (asked_entered u s bytes page (entry_is ∙ p))
+        go : (v : Verdict) → first_broken of_state ≡ v → unheld_word (number_of (ask_call u s bytes page).verdict) ≡ ask_words u words bytes page
+        go (Ok o) p =
+            ap (λ (a : Answer). unheld_word (number_of a.verdict)) (asked_entered u s bytes page (entry_is ∙ p))
             ∙ look (ask u s (record_for s bytes)) refl
-            ∙ sym (ask_out 25 0 (last ∙ words_last of_state false p))
-        go (Refused n i) p =
-            ap (λ (a : Answer). unheld_word a.number) (asked_out u s bytes page n i (entry_is ∙ p))
+            ∙ sym (ask_out UnfitState (last ∙ words_last of_state false p))
+        go (Err w) p =
+            ap (λ (a : Answer). unheld_word (number_of a.verdict)) (asked_out u s bytes page w (entry_is ∙ p))
             ∙ sym (state_word (period_fits s.core.period) (grade_known s.core.grade) (table_fits u.table) (eqb (length page) (page_bytes (state_module s))) (fits s) p)
-            ∙ sym (ask_out n i (last ∙ then_words of_state false p))
+            ∙ sym (ask_out w (last ∙ then_words of_state false p))
 
   -- ── Taking ──
 

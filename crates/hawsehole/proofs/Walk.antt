@@ -1,4 +1,5 @@
 -- The one-record call on each record in turn is the call of many records and the whole-trace judge. Assumes nothing.
+use Rattle.std.specs.Prelude.{Ok, Err}
 use Prim.Native.Nat.{ℕ, zero, suc, ◌+◌, ◌-◌, ◌*◌, ◌/◌, ◌<◌}
 use native.Mathlib.Omega.{arith}
 use mathlib.Core.Path.{◌≡◌, refl, ap, sym, subst, ◌∙◌}
@@ -12,12 +13,12 @@ use Rattle.units.specs.Module.{page_bytes}
 use Rattle.layout.specs.declared.Record.{Record}
 use Rattle.layout.specs.Bytes.{header_of, records_of}
 use Rattle.layout.proofs.ReadBack.{sixteen_pass}
+use Rattle.rules.specs.declared.Refusal.{Refusal}
+use Rattle.rules.specs.declared.Refusal.TheVariants.{UnfitState}
 use Rattle.rules.specs.declared.State.{State}
 use Rattle.rules.specs.declared.Setup.{Setup}
-use Rattle.rules.specs.declared.Verdict.{Verdict}
-use Rattle.rules.specs.declared.Verdict.TheVariants.{Taken, Refused}
 use Rattle.rules.specs.Parts.{state_module}
-use Rattle.rules.specs.Numbers.{first_broken}
+use Rattle.rules.specs.Numbers.{first_broken, Verdict, number, number_of}
 use Rattle.rules.specs.Rules.{ask}
 use Rattle.rules.specs.After.{core_from, core_after, next}
 use Rattle.rules.specs.Run.{line, run, page_after}
@@ -53,43 +54,43 @@ module _ (u : Setup) (s : State) (k : ℕ) (bytes page beats : List ℕ) where
   walk_taken p = rw (p, walk)
 
   -- one that refuses it, with another number than 0
-  walk_refused : (n i : ℕ) → step u s (take 16 bytes) page ≡ refused n i s.core.number s page → eqb n 0 ≡ false
-      → walk u s (suc k) bytes page beats ≡ left (ran (Refused n i) s.core.number) page beats
+  walk_refused : (w : Refusal) → step u s (take 16 bytes) page ≡ refused w s.core.number s page → eqb (number w) 0 ≡ false
+      → walk u s (suc k) bytes page beats ≡ left (ran (Err w) s.core.number) page beats
   unfolding walk
-  walk_refused n i p z = rw (p, z)
+  walk_refused w p z = rw (p, z)
 
   -- where the call looks at its record, by what it finds
-  module _ (p : first_broken (entry_rules u s (take 16 bytes) page) ≡ Taken) where
-    asked_taken : ask u s first ≡ Taken
+  module _ (p : first_broken (entry_rules u s (take 16 bytes) page) ≡ Ok tt) where
+    asked_taken : ask u s first ≡ Ok tt
         → walk u s (suc k) bytes page beats
         ≡ walk u (next u s first) k (drop 16 bytes) (page_next s first page) (put_line s.core.number (line s first) beats)
     asked_taken q = walk_taken (step_taken u s (take 16 bytes) page (record { entered = p; asked = q }))
 
     -- no row that a record meets has number 0
-    asked_refused : (n i : ℕ) → ask u s first ≡ Refused n i
-        → walk u s (suc k) bytes page beats ≡ left (ran (Refused n i) s.core.number) page beats
-    asked_refused n i q =
-        let w = step_refuses u s (take 16 bytes) page p n i q in
-        walk_refused n i w
-        (ne_eqb n 0
+    asked_refused : (w : Refusal) → ask u s first ≡ Err w
+        → walk u s (suc k) bytes page beats ≡ left (ran (Err w) s.core.number) page beats
+    asked_refused w q =
+        let r = step_refuses u s (take 16 bytes) page p w q in
+        walk_refused w r
+        (ne_eqb (number w) 0
         (λ z.
-        let e = taken_at_zero u s (take 16 bytes) page (subst (λ (x : Stepped). x.answer.number ≡ 0) (sym w) z) in
-        let a : ◌≡◌ {A = Verdict} (Refused n i) Taken = sym q ∙ e.asked in
+        let e = taken_at_zero u s (take 16 bytes) page (subst (λ (x : Stepped). number_of x.answer.verdict ≡ 0) (sym r) z) in
+        let a : ◌≡◌ {A = Verdict} (Err w) (Ok tt) = sym q ∙ e.asked in
         let b : ◌≡◌ {A = ℕ} 0 1 = cc in
         absurd (omega arith)))
 
 -- ── Call after call ──
 
-walk_none : (u : Setup) (s : State) (bytes page beats : List ℕ) → walk u s 0 bytes page beats ≡ left (ran Taken s.core.number) page beats
+walk_none : (u : Setup) (s : State) (bytes page beats : List ℕ) → walk u s 0 bytes page beats ≡ left (ran (Ok tt) s.core.number) page beats
 unfolding walk
 walk_none u s bytes page beats = refl
 
 -- the walk over `count` records and `more` after them, up to record number `total`: the fold over the first, then `after`, which what
 -- the calls give at that number must be, and which leaves a refusal as it is
 module _ (u : Setup) (more total : ℕ) (after : Left → Left)
-    (refusal : (n i k : ℕ) (page beats : List ℕ) → after (left (ran (Refused n i) k) page beats) ≡ left (ran (Refused n i) k) page beats)
+    (refusal : (w : Refusal) (k : ℕ) (page beats : List ℕ) → after (left (ran (Err w) k) page beats) ≡ left (ran (Err w) k) page beats)
     (base : (s : State) (bytes page beats : List ℕ) → length bytes ≡ 16 * more → Ready u s 0 page → s.core.number ≡ total
-    → walk u s more bytes page beats ≡ after (left (ran Taken s.core.number) page beats)) where
+    → walk u s more bytes page beats ≡ after (left (ran (Ok tt) s.core.number) page beats)) where
   ready_walk : (s : State) (count : ℕ) (bytes page beats : List ℕ) → length bytes ≡ 16 * longer count more → Ready u s count page
       → s.core.number + count ≡ total
       → walk u s (longer count more) bytes page beats ≡ after (fold u s (records_of (state_module s) count bytes) page beats)
@@ -107,23 +108,23 @@ module _ (u : Setup) (more total : ℕ) (after : Left → Left)
       rest : length (drop 16 bytes) ≡ 16 * longer c more
       rest = simp length-drop (omega (arith, h))
 
-      enter : first_broken (entry_rules u s (take 16 bytes) page) ≡ Taken
+      enter : first_broken (entry_rules u s (take 16 bytes) page) ≡ Ok tt
       enter = ready_entered u s c (take 16 bytes) page e (length-take-le 16 bytes (omega (arith, h)))
 
       go : (v : Verdict) → ask u s r ≡ v
-          → (ask u s r ≡ Taken
+          → (ask u s r ≡ Ok tt
           → walk u (next u s r) (longer c more) (drop 16 bytes) (page_next s r page) (put_line s.core.number (line s r) beats)
           ≡ after (fold u (next u s r) (records_of (state_module s) c (drop 16 bytes)) (page_next s r page) (put_line s.core.number (line s r) beats)))
           → walk u s (suc (longer c more)) bytes page beats
           ≡ after (fold u s (r ∷ records_of (state_module s) c (drop 16 bytes)) page beats)
-      go Taken p ih =
+      go (Ok o) p ih =
           asked_taken u s (longer c more) bytes page beats enter p
           ∙ ih p
           ∙ ap after (sym (fold_taken u s r (records_of (state_module s) c (drop 16 bytes)) page beats p))
-      go (Refused n i) p ih =
-          asked_refused u s (longer c more) bytes page beats enter n i p
-          ∙ sym (refusal n i s.core.number page beats)
-          ∙ ap after (sym (fold_refused u s r (records_of (state_module s) c (drop 16 bytes)) page beats n i p))
+      go (Err w) p ih =
+          asked_refused u s (longer c more) bytes page beats enter w p
+          ∙ sym (refusal w s.core.number page beats)
+          ∙ ap after (sym (fold_refused u s r (records_of (state_module s) c (drop 16 bytes)) page beats w p))
 
 -- ── A record number above 2^41 ──
 
@@ -137,19 +138,19 @@ too_many s e = go (fits s) refl
 -- the call after the last record that may be judged gives 25, and reports record 0
 twenty_five : (u : Setup) (more : ℕ) (s : State) (bytes page beats : List ℕ) → length bytes ≡ 16 * suc more → Ready u s 0 page
     → s.core.number ≡ suc number_max
-    → walk u s (suc more) bytes page beats ≡ past_room (left (ran Taken s.core.number) page beats)
+    → walk u s (suc more) bytes page beats ≡ past_room (left (ran (Ok tt) s.core.number) page beats)
 unfolding walk entry_rules state_rules
 twenty_five u more s bytes page beats h e k =
     let long : length (take 16 bytes) ≡ 16 = length-take-le 16 bytes (omega (arith, h)) in
-    let p : first_broken (entry_rules u s (take 16 bytes) page) ≡ Refused 25 0 =
+    let p : first_broken (entry_rules u s (take 16 bytes) page) ≡ Err UnfitState =
     rw (sixteen_pass (state_module s) (take 16 bytes) long, e.period, e.grade, e.table, eq-eqb (length page) (page_bytes (state_module s)) e.lent, too_many s k)
     in
-    rw (entry_refused u s (take 16 bytes) page 25 0 p)
+    rw (entry_refused u s (take 16 bytes) page UnfitState p)
 
 -- ── From what the call of many records tries before its first ──
 
 -- what the call tries before its first record is ready for as many records as may be judged
-ready : (u : Setup) (s : State) (bytes : ℕ) (page : List ℕ) → first_broken (records_rules u s bytes (length page)) ≡ Taken
+ready : (u : Setup) (s : State) (bytes : ℕ) (page : List ℕ) → first_broken (records_rules u s bytes (length page)) ≡ Ok tt
     → Ready u s (at_most (bytes / 16) (room s)) page
 unfolding records_rules
 ready u s bytes page p =
@@ -159,7 +160,7 @@ ready u s bytes page p =
 
 -- THE ONE-RECORD CALL ON EACH RECORD IN TURN IS THE CALL OF MANY RECORDS, where 1, 3, 4, 6, 7 and 25 pass before the first
 pub walk_records : (u : Setup) (s : State) (bytes page beats : List ℕ)
-    → first_broken (records_rules u s (length bytes) (length page)) ≡ Taken
+    → first_broken (records_rules u s (length bytes) (length page)) ≡ Ok tt
     → walk u s (length bytes / 16) bytes page beats ≡ records_call u s bytes page beats
 walk_records u s bytes page beats p = go (leb count (room s)) refl
   where
@@ -179,7 +180,7 @@ walk_records u s bytes page beats p = go (leb count (room s)) refl
     go true t =
         let n : longer count 0 ≡ count = longer_is count 0 ∙ omega arith in
         ap (λ (k : ℕ). walk u s k bytes page beats) (sym n)
-        ∙ ready_walk u 0 (s.core.number + count) (λ l. l) (λ n i k page beats. refl) (λ r b pg bt h q k. walk_none u r b pg bt) s count bytes page beats
+        ∙ ready_walk u 0 (s.core.number + count) (λ l. l) (λ w k page beats. refl) (λ r b pg bt h q k. walk_none u r b pg bt) s count bytes page beats
         (omega (arith, whole, n)) (some true t) refl
         ∙ sym (records_entered u s bytes page beats p t)
     go false t =
@@ -187,13 +188,13 @@ walk_records u s bytes page beats p = go (leb count (room s)) refl
         let left_over : suc (count - suc (room s)) ≡ count - room s = omega (arith, over) in
         let n : longer (room s) (suc (count - suc (room s))) ≡ count = longer_is (room s) (suc (count - suc (room s))) ∙ omega (arith, over) in
         ap (λ (k : ℕ). walk u s k bytes page beats) (sym n)
-        ∙ ready_walk u (suc (count - suc (room s))) (suc number_max) past_room (λ n i k page beats. refl)
+        ∙ ready_walk u (suc (count - suc (room s))) (suc number_max) past_room (λ w k page beats. refl)
         (λ r b pg bt h q k. twenty_five u (count - suc (room s)) r b pg bt h q k) s (room s) bytes page beats
         (omega (arith, whole, n)) (some false t) (omega (arith, e.number))
         ∙ sym (records_past u s bytes page beats p t)
 
 -- AND, FROM A TRACE'S START STATE, THE WHOLE-TRACE JUDGE, where 1 to 7 pass
-pub walk_whole : (u : Setup) (trace page beats : List ℕ) → entry u trace page ≡ Taken
+pub walk_whole : (u : Setup) (trace page beats : List ℕ) → entry u trace page ≡ Ok tt
     → walk u (start_of (header_of trace)) (header_of trace).count (drop 16 trace) page beats ≡ whole_call u trace page beats
 walk_whole u trace page beats p =
     let count : length (drop 16 trace) / 16 ≡ (header_of trace).count = omega (arith, rest_long u trace page beats p) in

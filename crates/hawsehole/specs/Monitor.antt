@@ -1,15 +1,13 @@
 -- For the live monitor, which is C: one record asked, or taken, from a state that is lent as words (02, K7). Definitions only.
-use Rattle.std.specs.Prelude.{ℕ, ◌%◌, ◌^◌, ◌&&◌, cond, List, [], ◌∷◌, ◌++◌, eqb, ltb, length}
+use Rattle.std.specs.Prelude.{ℕ, ◌%◌, ◌^◌, ◌&&◌, cond, List, [], ◌∷◌, ◌++◌, eqb, ltb, length, Option, None, Some, Ok, Err}
 use Rattle.units.specs.declared.Module.{Module}
 use Rattle.units.specs.Module.{module_of, rows}
 use Rattle.units.specs.declared.Clock.{Clock}
-use Rattle.units.specs.declared.Event.{Event}
-use Rattle.units.specs.declared.Event.TheVariants.{Never, On}
 use Rattle.units.specs.Time.{clock, time}
+use Rattle.rules.specs.declared.Refusal.TheVariants.{UnfitState, WrongGrade, WrongLength, WrongPeriod}
 use Rattle.rules.specs.declared.Setup.{Setup}
 use Rattle.rules.specs.declared.Answer.{Answer}
-use Rattle.rules.specs.declared.Verdict.TheVariants.{Taken, Refused}
-use Rattle.rules.specs.Numbers.{Rule, rule, first_broken}
+use Rattle.rules.specs.Numbers.{Rule, rule, first_broken, number, interval, number_of, interval_of}
 use Rattle.rules.specs.Parts.{start}
 use Rattle.rules.specs.OneRecord.{period_fits, grade_known, state_rules, ask_call, Took, take_call}
 use Rattle.rules.specs.Report.{put_line}
@@ -20,15 +18,15 @@ use Rattle.hawsehole.specs.Numbers.{word_of}
 
 -- "25 (a bank or row off the module, a wrong state_len)"
 unfoldable pub place_rules : ℕ → Module → ℕ → ℕ → List Rule
-place_rules words m bank row = rule 25 0 (eqb words state_words && (ltb bank 4 && ltb row (rows m))) ∷ []
+place_rules words m bank row = rule UnfitState (eqb words state_words && (ltb bank 4 && ltb row (rows m))) ∷ []
 
 -- 4 and 25
 unfoldable pub grade_rules : ℕ → ℕ → ℕ → ℕ → List Rule
-grade_rules words grade bank row = rule 4 0 (grade_known grade) ∷ place_rules words (module_of grade) bank row
+grade_rules words grade bank row = rule WrongGrade (grade_known grade) ∷ place_rules words (module_of grade) bank row
 
 -- 3, 4 and 25
 unfoldable pub start_rules : ℕ → ℕ → ℕ → ℕ → ℕ → List Rule
-start_rules words period grade bank row = rule 3 0 (period_fits (time period)) ∷ grade_rules words grade bank row
+start_rules words period grade bank row = rule WrongPeriod (period_fits (time period)) ∷ grade_rules words grade bank row
 
 -- what a call on a state leaves: the answer, and the state's words
 pub record Started : Type 0 where
@@ -42,8 +40,8 @@ started number words = record { number = number; words = words }
 unfoldable pub start_call : List ℕ → ℕ → ℕ → ℕ → ℕ → Started
 start_call words period grade bank row =
     elim (first_broken (start_rules (length words) period grade bank row)) [
-      | Taken ↦ started 0 (put_words (words_of (start (time period) grade bank row)) words)
-      | Refused n i ↦ started n words
+      | Ok x ↦ started 0 (put_words (words_of (start (time period) grade bank row)) words)
+      | Err w ↦ started (number w) words
     ]
 
 -- ── One record ──
@@ -51,19 +49,19 @@ start_call words period grade bank row =
 -- "a record that is not 16 bytes long is 1, then a wrong state_len is 25, then 3, 4, 6, 7, 25"
 unfoldable pub monitor_rules : Setup → List ℕ → ℕ → ℕ → List Rule
 monitor_rules u words bytes lent =
-    rule 1 0 (eqb bytes 16)
-    ∷ rule 25 0 (eqb (length words) state_words)
-    ∷ (state_rules u (state_in words) lent ++ (rule 25 0 (holds words) ∷ []))
+    rule WrongLength (eqb bytes 16)
+    ∷ rule UnfitState (eqb (length words) state_words)
+    ∷ (state_rules u (state_in words) lent ++ (rule UnfitState (holds words) ∷ []))
 
 abbrev pub word_for : Answer → ℕ
-word_for a = word_of a.number a.interval a.reported
+word_for a = word_of (number_of a.verdict) (interval_of a.verdict) a.reported
 
 -- "the answer word is the judge's"
 unfoldable pub ask_words : Setup → List ℕ → List ℕ → List ℕ → ℕ
 ask_words u words bytes page =
     elim (first_broken (monitor_rules u words (length bytes) (length page))) [
-      | Taken ↦ word_for (ask_call u (state_in words) bytes page)
-      | Refused n i ↦ word_of n i 0
+      | Ok x ↦ word_for (ask_call u (state_in words) bytes page)
+      | Err w ↦ word_of (number w) (interval w) 0
     ]
 
 -- what taking leaves: the answer, the words, the page and the lent beat
@@ -77,9 +75,9 @@ abbrev pub monitored : ℕ → List ℕ → List ℕ → List ℕ → Monitored
 monitored word words page beat = record { word = word; words = words; page = page; beat = beat }
 
 -- the clock of the last record taken; no state after one is without it
-abbrev pub last_clock : Event → Clock
-last_clock Never = clock 0
-last_clock (On n) = n
+abbrev pub last_clock : Option Clock → Clock
+last_clock None = clock 0
+last_clock (Some n) = n
 
 -- "a taken record's two beat words go to `beat` as far as it has room"
 abbrev pub taken_words : ℕ → Took → List ℕ → List ℕ → Monitored

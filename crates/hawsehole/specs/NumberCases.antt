@@ -1,6 +1,7 @@
 -- The judge for C, by cases: the answer's bits, the page, and each word of the lent beats (01, The console's C service tool). Assumes
 -- nothing.
-use Rattle.std.specs.Prelude.{ℕ, ◌+◌, Bool, ◌&&◌, List, [], ◌∷◌, ◌++◌, eqb, T, length, take, replicate}
+use Rattle.rules.specs.declared.Interval.TheVariants.{Rcd, Mrd}
+use Rattle.std.specs.Prelude.{ℕ, ◌+◌, Bool, ◌&&◌, List, [], ◌∷◌, ◌++◌, eqb, T, length, take, replicate, Ok, Err}
 use Rattle.units.specs.Facts.{all_true, same_numbers}
 use Rattle.units.specs.Module.{module_of}
 use Rattle.speed.specs.Table.{table, grade_13E, grade_133, table_fits}
@@ -11,7 +12,7 @@ use Rattle.mode.specs.Order.{beat_column}
 use Rattle.bursts.specs.Burst.{has_beat, write_beat, read_beat, finished}
 use Rattle.bursts.specs.Bus.{masks_on, masks_after, reads_from, bus_after, beat_on, bursts_finished, driven, bus_clear}
 use Rattle.page.specs.Store.{put_lanes, stored}
-use Rattle.rules.specs.declared.Verdict.TheVariants.{Taken, Refused}
+use Rattle.rules.specs.declared.Refusal.TheVariants.{LateClosing, UnfitState, WrongLength, TooSoon}
 use Rattle.rules.specs.Numbers.{number_of, interval_of}
 use Rattle.rules.specs.StartUp.{allowed}
 use Rattle.rules.specs.Banks.{banks_found}
@@ -49,20 +50,20 @@ use Rattle.hawsehole.specs.WholeCases.{
 -- bits 0 to 7 the number, 8 to 15 the interval, 16 to 39 the record
 abbrev pub words : List Bool
 words =
-    eqb (answer_word (ran Taken 0)) 0
-    ∷ eqb (answer_word (ran Taken 1)) 0x10000
-    ∷ eqb (answer_word (ran Taken 8)) 0x80000
-    ∷ eqb (answer_word (ran Taken 65_535)) 0xffff0000
+    eqb (answer_word (ran (Ok tt) 0)) 0
+    ∷ eqb (answer_word (ran (Ok tt) 1)) 0x10000
+    ∷ eqb (answer_word (ran (Ok tt) 8)) 0x80000
+    ∷ eqb (answer_word (ran (Ok tt) 65_535)) 0xffff0000
     -- the record at its last value, and one past it, of which 24 bits are kept
-    ∷ eqb (answer_word (ran Taken 16_777_215)) 0xffffff0000
-    ∷ eqb (answer_word (ran Taken 16_777_216)) 0
-    ∷ eqb (answer_word (ran Taken 16_777_217)) 0x10000
-    ∷ eqb (answer_word (ran (Refused 1 0) 0)) 0x1
-    ∷ eqb (answer_word (ran (Refused 22 0) 65_535)) 0xffff0016
-    ∷ eqb (answer_word (ran (Refused 25 0) 0)) 0x19
-    ∷ eqb (answer_word (ran (Refused 16 1) 0)) 0x0110
-    ∷ eqb (answer_word (ran (Refused 16 8) 65_535)) 0xffff0810
-    ∷ eqb (answer_word (ran (Refused 16 8) 16_777_215)) 0xffffff0810
+    ∷ eqb (answer_word (ran (Ok tt) 16_777_215)) 0xffffff0000
+    ∷ eqb (answer_word (ran (Ok tt) 16_777_216)) 0
+    ∷ eqb (answer_word (ran (Ok tt) 16_777_217)) 0x10000
+    ∷ eqb (answer_word (ran (Err WrongLength) 0)) 0x1
+    ∷ eqb (answer_word (ran (Err LateClosing) 65_535)) 0xffff0016
+    ∷ eqb (answer_word (ran (Err UnfitState) 0)) 0x19
+    ∷ eqb (answer_word (ran (Err (TooSoon Rcd)) 0)) 0x0110
+    ∷ eqb (answer_word (ran (Err (TooSoon Mrd)) 65_535)) 0xffff0810
+    ∷ eqb (answer_word (ran (Err (TooSoon Mrd)) 16_777_215)) 0xffffff0810
     ∷ []
 
 pub words_right : T (all_true words)

@@ -1,5 +1,5 @@
 -- The printed case of document 01, from its 144 bytes. Assumes nothing.
-use Rattle.std.specs.Prelude.{ℕ, ◌≡◌, refl, List, [], ◌∷◌, ◌++◌, replicate}
+use Rattle.std.specs.Prelude.{ℕ, ◌≡◌, refl, List, [], ◌∷◌, ◌++◌, replicate, Ok}
 use Rattle.units.specs.Time.{clock}
 use Rattle.speed.specs.Table.{table_fits}
 use Rattle.units.specs.Module.{module_of}
@@ -11,7 +11,6 @@ use Rattle.bursts.specs.declared.Beat.TheVariants.{Quiet, Stores}
 use Rattle.bursts.specs.Burst.{has_beat, write_beat, read_beat, finished}
 use Rattle.bursts.specs.Bus.{masks_on, masks_after, reads_from, bus_after, beat_on, bursts_finished, driven, bus_clear}
 use Rattle.page.specs.Store.{put_lanes, stored}
-use Rattle.rules.specs.declared.Verdict.TheVariants.{Taken}
 use Rattle.facts.specs.Cases.{with_133}
 use Rattle.rules.specs.StartUp.{allowed}
 use Rattle.rules.specs.Banks.{banks_found}
@@ -82,7 +81,7 @@ abbrev pub page_with : List ℕ → List ℕ → List ℕ
 page_with fourth fifth = replicate 32 255 ++ fourth ++ replicate 4 255 ++ fifth ++ replicate 16336 255
 
 abbrev pub clean : List ℕ → Judged
-clean page = record { verdict = Taken; reported = 8; lines = printed_lines; page = page }
+clean page = record { verdict = Ok tt; reported = 8; lines = printed_lines; page = page }
 
 -- THE PRINTED CASE: "DQ bits not named are 0", over a page of FF so that each stored byte shows
 pub printed : judge with_133 (bytes zeros zeros) (replicate 16384 255) ≡ clean (page_with (replicate 4 0) (replicate 8 0))

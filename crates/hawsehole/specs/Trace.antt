@@ -1,5 +1,6 @@
 -- A whole trace from its bytes: verdicts 1 to 7, then record after record; verdict, beats and page (01, Verdicts). Definitions only.
-use Rattle.std.specs.Prelude.{ℕ, ◌+◌, ◌*◌, List, [], ◌∷◌, eqb, length, take, drop}
+use Rattle.rules.specs.declared.Refusal.{Refusal}
+use Rattle.std.specs.Prelude.{ℕ, ◌+◌, ◌*◌, List, [], ◌∷◌, eqb, length, take, drop, Ok, Err}
 use Rattle.units.specs.declared.Module.{Module}
 use Rattle.units.specs.Module.{page_bytes, module_of}
 use Rattle.units.specs.Time.{time}
@@ -7,11 +8,10 @@ use Rattle.speed.specs.Table.{table_fits}
 use Rattle.layout.specs.declared.Header.{Header}
 use Rattle.layout.specs.declared.Record.{Record}
 use Rattle.layout.specs.Bytes.{header_of, read_header, header_number, records_of}
+use Rattle.rules.specs.declared.Refusal.TheVariants.{HeaderZeros, WrongGrade, WrongLength, WrongPage, WrongPeriod, WrongTable, WrongVersion}
 use Rattle.rules.specs.declared.State.{State}
 use Rattle.rules.specs.declared.Setup.{Setup}
-use Rattle.rules.specs.declared.Verdict.{Verdict}
-use Rattle.rules.specs.declared.Verdict.TheVariants.{Taken, Refused}
-use Rattle.rules.specs.Numbers.{Rule, rule, first_broken}
+use Rattle.rules.specs.Numbers.{Rule, rule, first_broken, Verdict}
 use Rattle.rules.specs.Parts.{start}
 use Rattle.rules.specs.Run.{Line, Run, run, page_after}
 use Rattle.rules.specs.OneRecord.{period_fits, grade_known}
@@ -19,24 +19,24 @@ use Rattle.rules.specs.OneRecord.{period_fits, grade_known}
 -- 5, 6 and 7, with a page of so many bytes
 unfoldable pub lent_rules : Setup → Header → ℕ → List Rule
 lent_rules u h lent =
-    rule 5 0 (eqb h.zeros 0)
-    ∷ rule 6 0 (table_fits u.table)
-    ∷ rule 7 0 (eqb lent (page_bytes (module_of h.grade)))
+    rule HeaderZeros (eqb h.zeros 0)
+    ∷ rule WrongTable (table_fits u.table)
+    ∷ rule WrongPage (eqb lent (page_bytes (module_of h.grade)))
     ∷ []
 
 -- rows 1 to 7, for a trace of so many bytes with this header: "length not 16 + 16 x count"
 unfoldable pub whole_rules : Setup → Header → ℕ → ℕ → List Rule
 whole_rules u h bytes lent =
-    rule 1 0 (eqb bytes (16 + 16 * h.count))
-    ∷ rule 2 0 (eqb h.version 1)
-    ∷ rule 3 0 (period_fits (time h.period))
-    ∷ rule 4 0 (grade_known h.grade)
+    rule WrongLength (eqb bytes (16 + 16 * h.count))
+    ∷ rule WrongVersion (eqb h.version 1)
+    ∷ rule WrongPeriod (period_fits (time h.period))
+    ∷ rule WrongGrade (grade_known h.grade)
     ∷ lent_rules u h lent
 
 -- the same from the trace's bytes: "under 16 bytes" there is no header
 abbrev pub trace_rules : Setup → List ℕ → ℕ → List Rule
 trace_rules u trace lent =
-    rule 1 0 (eqb (header_number (read_header trace)) 0) ∷ whole_rules u (header_of trace) (length trace) lent
+    rule WrongLength (eqb (header_number (read_header trace)) 0) ∷ whole_rules u (header_of trace) (length trace) lent
 
 -- verdict, reported record, a line for each record taken, and the page left
 pub record Judged : Type 0 where
@@ -69,15 +69,15 @@ judged trace page v =
     record { verdict = v.verdict; reported = v.reported; lines = v.lines; page = page_of trace v.lines page }
 
 -- "1 to 7 leave page and state untouched, report record 0 and look at no record"
-abbrev pub refused : ℕ → ℕ → List ℕ → Judged
-refused n i page = record { verdict = Refused n i; reported = 0; lines = []; page = page }
+abbrev pub refused : Refusal → List ℕ → Judged
+refused w page = record { verdict = Err w; reported = 0; lines = []; page = page }
 
 -- 1 to 7, then what this run of its records leaves
 abbrev pub judged_by : Setup → List ℕ → List ℕ → Run → Judged
 judged_by u trace page v =
     elim (first_broken (trace_rules u trace (length page))) [
-      | Taken ↦ judged trace page v
-      | Refused n i ↦ refused n i page
+      | Ok x ↦ judged trace page v
+      | Err w ↦ refused w page
     ]
 
 unfoldable pub judge : Setup → List ℕ → List ℕ → Judged

@@ -1,89 +1,81 @@
 // For the live monitor, which is C: one record asked, or taken, from a state that is lent as words.
 ghost use Rattle.std.specs.Prelude.{◌≡◌, cond, eqb, ltb};
-ghost use Rattle.speed.specs.Table.{table};
-ghost use Rattle.rules.specs.Numbers.{first_broken};
+ghost use Rattle.rules.specs.Numbers.{first_broken, number_of};
 ghost use Rattle.hawsehole.specs.Numbers.{with_table};
 ghost use Rattle.hawsehole.specs.Monitor.{place_rules, grade_rules, start_rules, started, start_call, ask_words, monitored, last_clock, take_words};
 
-use crate::{setup_of, word_of};
+use crate::word_of;
 use device::{Device, reporting};
-use rules::{Setup, Verdict};
-use units::{BANKS, Clock, Event, Module, Ps};
+use rules::{Refusal, Setup};
+use speed::SpeedTable;
+use units::{BANKS, Clock, Module, Ps};
 use words::WORDS;
 
 // 25, of the words and the watched bank and row.
 #[tactic(auto, unfolding(crate::specs::Monitor::place_rules))]
-fn place_verdict(words: usize, m: Module, bank: u64, row: u64) -> Verdict
+fn place_verdict(words: usize, m: Module, bank: u64, row: u64) -> Result<(), Refusal>
     ensures { result ≡ first_broken (place_rules words m bank row) }
 {
-    if words != WORDS {
-        return Verdict::refused(25);
+    if words != WORDS || BANKS as u64 <= bank || m.rows() as u64 <= row {
+        return Err(Refusal::UnfitState);
     }
-    if BANKS as u64 <= bank {
-        return Verdict::refused(25);
-    }
-    if m.rows() as u64 <= row {
-        return Verdict::refused(25);
-    }
-    Verdict::Taken
+    Ok(())
 }
 
 // 4 and 25.
 #[tactic(auto, unfolding(crate::specs::Monitor::grade_rules))]
-fn grade_verdict(words: usize, grade: u8, bank: u64, row: u64) -> Verdict
+fn grade_verdict(words: usize, grade: u8, bank: u64, row: u64) -> Result<(), Refusal>
     ensures { result ≡ first_broken (grade_rules words grade bank row) }
 {
-    if rules::grade_known(grade) {
-        return place_verdict(words, Module::of_grade(grade), bank, row);
+    if !rules::grade_known(grade) {
+        return Err(Refusal::WrongGrade);
     }
-    Verdict::refused(4)
+    place_verdict(words, Module::of_grade(grade), bank, row)
 }
 
 // 3, 4 and 25.
 #[tactic(auto, unfolding(crate::specs::Monitor::start_rules))]
-fn start_verdict(words: usize, period: u64, grade: u64, bank: u64, row: u64) -> Verdict
+fn start_verdict(words: usize, period: u64, grade: u64, bank: u64, row: u64) -> Result<(), Refusal>
     ensures { result ≡ first_broken (start_rules words period grade bank row) }
 {
-    if rules::period_fits(Ps(period)) {
-        if grade < 256 {
-            return grade_verdict(words, grade as u8, bank, row);
-        }
-        return Verdict::refused(4);
+    if !rules::period_fits(Ps(period)) {
+        return Err(Refusal::WrongPeriod);
     }
-    Verdict::refused(3)
+    if 256 <= grade {
+        return Err(Refusal::WrongGrade);
+    }
+    grade_verdict(words, grade as u8, bank, row)
 }
 
 // The state before the first record, as words.
 #[tactic(auto, unfolding(crate::specs::Monitor::start_call))]
-pub fn hawsehole_start(state: &mut [u64], period: u64, grade: u64, bank: u64, row: u64) -> u64
+pub fn start(state: &mut [u64], period: u64, grade: u64, bank: u64, row: u64) -> u64
     ensures { started result state.new ≡ start_call state.old period grade bank row }
 {
-    let v = start_verdict(state.len(), period, grade, bank, row);
-    let Verdict::Taken = v else {
-        return v.number() as u64;
-    };
-    let d = Device::start(Ps(period), grade as u8, bank as u8, row as u16);
-    words::put(d.0, state);
-    0
+    match start_verdict(state.len(), period, grade, bank, row) {
+        Err(why) => why.number() as u64,
+        Ok(()) => {
+            let d = Device::start(Ps(period), grade as u8, bank as u8, row as u16);
+            words::put(d.0, state);
+            0
+        }
+    }
 }
 
 // The answer where the words hold no state, by what asking says of the one that they are read as: 3, 4, 6 and 7 come before 25, and
 // all else after it.
-fn unheld(number: u8) -> u64
-    ensures { result ≡ cond (eqb number 0) 25 (cond (ltb number 8) number 25) }
+fn unheld(v: Result<(), Refusal>) -> u64
+    ensures { result ≡ cond (eqb (number_of v) 0) 25 (cond (ltb (number_of v) 8) (number_of v) 25) }
 {
-    if number == 0 {
-        return 25;
+    match v {
+        Err(why) if why.number() < 8 => why.number() as u64,
+        _ => 25,
     }
-    if number < 8 {
-        return number as u64;
-    }
-    25
 }
 
 // May this record stand next? What is tried before the record is looked at stands in one place, behind `Device::ask`.
 #[tactic(auto, unfolding(crate::specs::Monitor::ask_words))]
-fn ask(u: Setup, state: &[u64], bytes: &[u8], page: &[u8]) -> u64
+fn ask_of(u: Setup, state: &[u64], bytes: &[u8], page: &[u8]) -> u64
     ensures { result ≡ ask_words u state.now bytes.now page.now }
 {
     if bytes.len() != 16 {
@@ -95,89 +87,46 @@ fn ask(u: Setup, state: &[u64], bytes: &[u8], page: &[u8]) -> u64
     let d = Device(words::state(state));
     let a = d.ask(u, bytes, page);
     if words::holds(state) {
-        return word_of(a.number, a.interval, a.reported);
+        return word_of(a.verdict, a.reported);
     }
-    unheld(a.number)
+    unheld(a.verdict)
 }
 
 // The clock of the last record taken.
-fn last_clock(last: Event) -> Clock
+fn last_clock(last: Option<Clock>) -> Clock
     ensures { result ≡ last_clock last }
 {
-    match last {
-        Event::Never => Clock(0),
-        Event::On(n) => n,
-    }
+    last.unwrap_or(Clock(0))
 }
 
-// Takes it.
-#[tactic(auto, unfolding(crate::specs::Monitor::take_words))]
-fn take(u: Setup, state: &mut [u64], bytes: &[u8], page: &mut [u8], beat: &mut [u64]) -> u64
-    ensures { monitored result state.new page.new beat.new ≡ take_words u state.old bytes.now page.old beat.old }
+// The same, under this speed table. Nothing is changed.
+pub fn ask(table: SpeedTable, state: &[u64], bytes: &[u8], page: &[u8]) -> u64
+    ensures { result ≡ ask_words (with_table table) state.now bytes.now page.now }
 {
-    let word = ask(u, state, bytes, page);
+    ask_of(Setup { table }, state, bytes, page)
+}
+
+// Asks, and takes a record that may stand: its words, and the beat on its clock.
+#[tactic(auto, unfolding(crate::specs::Monitor::take_words))]
+pub fn take(
+    table: SpeedTable,
+    state: &mut [u64],
+    bytes: &[u8],
+    page: &mut [u8],
+    beat: &mut [u64],
+) -> u64
+    ensures { monitored result state.new page.new beat.new ≡ take_words (with_table table) state.old bytes.now page.old beat.old }
+{
+    let u = Setup { table };
+    let word = ask_of(u, state, bytes, page);
     if word % 256 != 0 {
         return word;
     }
     let d = Device(words::state(state));
     let took = d.take(u, bytes, page);
-    let w = took.beat;
-    let next = took.next;
-    let s = next.0;
-    let core = s.core;
-    let last = core.last;
-    reporting::put(beat, 0, reporting::beat_word(w));
-    reporting::put(beat, 1, last_clock(last).0);
+    let s = took.next.0;
+    reporting::put(beat, 0, reporting::beat_word(took.beat));
+    reporting::put(beat, 1, last_clock(s.core.last).0);
     words::put(s, state);
     word
-}
-
-// The same, with the thirteen numbers of the speed table in document 01's order. Nothing is changed.
-pub fn hawsehole_ask(
-    state: &[u64],
-    bytes: &[u8],
-    page: &[u8],
-    t1: u64,
-    t2: u64,
-    t3: u64,
-    t4: u64,
-    t5: u64,
-    t6: u64,
-    t7: u64,
-    t8: u64,
-    t9: u64,
-    t10: u64,
-    t11: u64,
-    t12: u64,
-    t13: u64,
-) -> u64
-    ensures { result ≡ ask_words (with_table (table t1 t2 t3 t4 t5 t6 t7 t8 t9 t10 t11 t12 t13)) state.now bytes.now page.now }
-{
-    let u = setup_of(t1, t2, t3, t4, t5, t6, t7, t8, t9, t10, t11, t12, t13);
-    ask(u, state, bytes, page)
-}
-
-pub fn hawsehole_take(
-    state: &mut [u64],
-    bytes: &[u8],
-    page: &mut [u8],
-    beat: &mut [u64],
-    t1: u64,
-    t2: u64,
-    t3: u64,
-    t4: u64,
-    t5: u64,
-    t6: u64,
-    t7: u64,
-    t8: u64,
-    t9: u64,
-    t10: u64,
-    t11: u64,
-    t12: u64,
-    t13: u64,
-) -> u64
-    ensures { monitored result state.new page.new beat.new ≡ take_words (with_table (table t1 t2 t3 t4 t5 t6 t7 t8 t9 t10 t11 t12 t13)) state.old bytes.now page.old beat.old }
-{
-    let u = setup_of(t1, t2, t3, t4, t5, t6, t7, t8, t9, t10, t11, t12, t13);
-    take(u, state, bytes, page, beat)
 }

@@ -1,11 +1,14 @@
-// The calls for C: each is the function of this name in `hawsehole`, with its promise. A slice is passed as a pointer and a length;
-// include/hawsehole.h declares them.
+// The calls for C: `hawsehole`'s calls under a speed table of thirteen numbers in document 01's order. A slice is passed as a pointer
+// and a length; include/hawsehole.h declares them. The numbers stay apart here, and here alone: C links to these signatures.
 #![tactic(auto)]
 
 ghost use Rattle.std.specs.Prelude.{◌≡◌};
 ghost use Rattle.speed.specs.Table.{table};
 ghost use Rattle.hawsehole.specs.Numbers.{with_table, answered, judge_beats, alone, judge_alone};
 ghost use Rattle.hawsehole.specs.Monitor.{started, start_call, ask_words, monitored, take_words};
+
+use hawsehole::monitor;
+use speed::SpeedTable;
 
 // A whole trace, and two words for each record.
 #[unsafe(no_mangle)]
@@ -29,9 +32,8 @@ pub extern "C" fn hawsehole_judge_beats(
 ) -> u64
     ensures { answered result page.new beats.new ≡ judge_beats (table t1 t2 t3 t4 t5 t6 t7 t8 t9 t10 t11 t12 t13) trace.now page.old beats.old }
 {
-    hawsehole::hawsehole_judge_beats(
-        trace, page, beats, t1, t2, t3, t4, t5, t6, t7, t8, t9, t10, t11, t12, t13,
-    )
+    let table = SpeedTable::of_numbers(t1, t2, t3, t4, t5, t6, t7, t8, t9, t10, t11, t12, t13);
+    hawsehole::judge_beats(table, trace, page, beats)
 }
 
 // A whole trace, with no beats.
@@ -55,9 +57,8 @@ pub extern "C" fn hawsehole_judge(
 ) -> u64
     ensures { alone result page.new ≡ judge_alone (table t1 t2 t3 t4 t5 t6 t7 t8 t9 t10 t11 t12 t13) trace.now page.old }
 {
-    hawsehole::hawsehole_judge(
-        trace, page, t1, t2, t3, t4, t5, t6, t7, t8, t9, t10, t11, t12, t13,
-    )
+    let table = SpeedTable::of_numbers(t1, t2, t3, t4, t5, t6, t7, t8, t9, t10, t11, t12, t13);
+    hawsehole::judge_alone(table, trace, page)
 }
 
 // The state before the first record.
@@ -71,7 +72,7 @@ pub extern "C" fn hawsehole_start(
 ) -> u64
     ensures { started result state.new ≡ start_call state.old period grade bank row }
 {
-    hawsehole::monitor::hawsehole_start(state, period, grade, bank, row)
+    monitor::start(state, period, grade, bank, row)
 }
 
 // May this record stand next?
@@ -96,9 +97,8 @@ pub extern "C" fn hawsehole_ask(
 ) -> u64
     ensures { result ≡ ask_words (with_table (table t1 t2 t3 t4 t5 t6 t7 t8 t9 t10 t11 t12 t13)) state.now bytes.now page.now }
 {
-    hawsehole::monitor::hawsehole_ask(
-        state, bytes, page, t1, t2, t3, t4, t5, t6, t7, t8, t9, t10, t11, t12, t13,
-    )
+    let table = SpeedTable::of_numbers(t1, t2, t3, t4, t5, t6, t7, t8, t9, t10, t11, t12, t13);
+    monitor::ask(table, state, bytes, page)
 }
 
 // The same, and takes it.
@@ -124,7 +124,6 @@ pub extern "C" fn hawsehole_take(
 ) -> u64
     ensures { monitored result state.new page.new beat.new ≡ take_words (with_table (table t1 t2 t3 t4 t5 t6 t7 t8 t9 t10 t11 t12 t13)) state.old bytes.now page.old beat.old }
 {
-    hawsehole::monitor::hawsehole_take(
-        state, bytes, page, beat, t1, t2, t3, t4, t5, t6, t7, t8, t9, t10, t11, t12, t13,
-    )
+    let table = SpeedTable::of_numbers(t1, t2, t3, t4, t5, t6, t7, t8, t9, t10, t11, t12, t13);
+    monitor::take(table, state, bytes, page, beat)
 }

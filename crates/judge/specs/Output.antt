@@ -1,10 +1,9 @@
 -- What the program prints for what it reads (01, The module and what we judge; The printed case). Definitions only.
-use Rattle.std.specs.Prelude.{ℕ, ◌*◌, cond, List, ltb, length, replicate}
+use Rattle.layout.specs.declared.Header.{Header}
+use Rattle.std.specs.Prelude.{ℕ, ◌*◌, cond, List, ltb, length, replicate, Option, None, Some}
 use Rattle.units.specs.declared.Module.TheVariants.{Bench}
 use Rattle.units.specs.Module.{page_bytes}
 use Rattle.speed.specs.Table.{of_grade}
-use Rattle.layout.specs.declared.HeaderBytes.{HeaderBytes}
-use Rattle.layout.specs.declared.HeaderBytes.TheVariants.{Headed, TooShort}
 use Rattle.layout.specs.Bytes.{read_header}
 use Rattle.hawsehole.specs.Numbers.{Answered, judge_beats}
 use Rattle.lines.specs.Text.{report, too_long}
@@ -17,9 +16,9 @@ abbrev pub records_max : ℕ
 records_max = 4_095
 
 -- "The program takes the header's grade"; with no header the trace gets 1 by any table
-abbrev pub grade_of : HeaderBytes → ℕ
-grade_of (Headed h) = h.grade
-grade_of TooShort = 0
+abbrev pub grade_of : Option Header → ℕ
+grade_of (Some h) = h.grade
+grade_of None = 0
 
 -- the judge's answer, "from a page of zeros" (either grade is the bench's), and two words for each record
 unfoldable pub answer_of : List ℕ → Answered

@@ -7,7 +7,8 @@ ghost use Rattle.std.specs.Io.KnownBytes.{Appends, Consumes, IsAtEnd};
 ghost use Rattle.lines.specs.Place.{Holds};
 ghost use Rattle.judge.specs.Output.{grade_of, printed, output};
 
-use layout::HeaderBytes;
+use layout::Header;
+use rules::Setup;
 use speed::SpeedTable;
 use std::io;
 use std::io::{Read, Write};
@@ -23,44 +24,25 @@ const WORDS: usize = 8_190;
 const TEXT_MAX: usize = 450_560;
 
 // "The program takes the header's grade"; with no header any grade does.
-fn grade(h: HeaderBytes) -> u8
+fn grade(h: Option<Header>) -> u8
     ensures { result ≡ grade_of h }
 {
-    match h {
-        HeaderBytes::Headed(h) => h.grade,
-        HeaderBytes::TooShort => 0,
-    }
+    h.map_or(0, |h| h.grade)
 }
 
 // All that is printed of a trace, at the start of a buffer that has room for the longest text.
 fn print_trace(trace: &[u8], out: &mut [u8; TEXT_MAX]) -> usize
     ensures { Holds (printed trace.now) out.new result }
 {
-    let t = SpeedTable::of_grade(grade(layout::read_header(trace)));
-    let mut page = [0u8; PAGE_BYTES];
-    let mut words = [0u64; WORDS];
-    let answer = hawsehole::hawsehole_judge_beats(
-        trace,
-        &mut page,
-        &mut words,
-        t.tck2.0,
-        t.tck3.0,
-        t.trasmin.0,
-        t.trasmax.0,
-        t.trc.0,
-        t.trcd.0,
-        t.trp.0,
-        t.trrd.0,
-        t.trfc.0,
-        t.twr.0,
-        t.addition.0,
-        t.interval.0,
-        t.tmrd.0,
-    );
-    lines::report(&words, answer, out)
+    let table = SpeedTable::of_grade(grade(layout::read_header(trace)));
+    let mut page = [0; PAGE_BYTES];
+    let mut words = [0; WORDS];
+    let ran = hawsehole::judge(Setup { table }, trace, &mut page, &mut words);
+    lines::report(&words, hawsehole::answer_word(ran), out)
 }
 
 // All that is printed of an input.
+#[tactic(auto, unfolding(crate::specs::Output::output))]
 fn print_input(input: &[u8], out: &mut [u8; TEXT_MAX]) -> usize
     ensures { Holds (output input.now) out.new result }
 {
@@ -75,9 +57,9 @@ fn run<R: Read, W: Write>(input: &mut R, to: &mut W) -> io::Result<()>
     ensures { OnOk result (IfSome (R.remaining input.old) (λ bytes. Appends (W.contents to.old) (W.contents to.new) (output bytes))) }
 {
     // one byte more than the longest trace, to tell a longer one
-    let mut trace = [0u8; TRACE_MAX + 1];
+    let mut trace = [0; TRACE_MAX + 1];
     let n = reading::read_full(input, &mut trace)?;
-    let mut out = [0u8; TEXT_MAX];
+    let mut out = [0; TEXT_MAX];
     let bytes = print_input(&trace[..n], &mut out);
     to.write_all(&out[..bytes])
 }

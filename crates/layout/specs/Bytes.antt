@@ -1,13 +1,9 @@
 -- Header and record by bit position, most significant bit first (01, Trace layout). Definitions only.
-use Rattle.std.specs.Prelude.{ℕ, zero, suc, ◌+◌, ◌-◌, ◌*◌, ◌/◌, ◌%◌, ◌^◌, Bool, ◌&&◌, cond, List, [], ◌∷◌, leb, ltb, eqb, length, take, drop}
+use Rattle.std.specs.Prelude.{ℕ, zero, suc, ◌+◌, ◌-◌, ◌*◌, ◌/◌, ◌%◌, ◌^◌, Bool, ◌&&◌, cond, List, [], ◌∷◌, leb, ltb, eqb, length, take, drop, Option, None, Some}
 use Rattle.units.specs.declared.Module.{Module}
 use Rattle.units.specs.Module.{rows, lanes}
 use Rattle.layout.specs.declared.Header.{Header}
 use Rattle.layout.specs.declared.Record.{Record}
-use Rattle.layout.specs.declared.HeaderBytes.{HeaderBytes}
-use Rattle.layout.specs.declared.HeaderBytes.TheVariants.{Headed, TooShort}
-use Rattle.layout.specs.declared.RecordBytes.{RecordBytes}
-use Rattle.layout.specs.declared.RecordBytes.TheVariants.{Whole, WrongLength}
 use Rattle.layout.specs.Commands.{column_on}
 
 -- bytes as one number after a, most significant first
@@ -67,22 +63,22 @@ abbrev pub record_of : Module → List ℕ → Record
 record_of m bytes = record_from m (word_at bytes 0) (word_at bytes 8)
 
 -- a header's bytes: "under 16 bytes" there is none
-unfoldable pub read_header : List ℕ → HeaderBytes
-read_header bytes = cond (leb 16 (length bytes)) (Headed (header_of bytes)) TooShort
+unfoldable pub read_header : List ℕ → Option Header
+read_header bytes = cond (leb 16 (length bytes)) (Some (header_of bytes)) None
 
 -- this paper's number of what reading a header answers: "under 16 bytes" is 1
-abbrev pub header_number : HeaderBytes → ℕ
-header_number (Headed h) = 0
-header_number TooShort = 1
+abbrev pub header_number : Option Header → ℕ
+header_number (Some h) = 0
+header_number None = 1
 
 -- a record's bytes: "a record not 16 bytes long" is none
-unfoldable pub read_record : Module → List ℕ → RecordBytes
-read_record m bytes = cond (eqb (length bytes) 16) (Whole (record_of m bytes)) WrongLength
+unfoldable pub read_record : Module → List ℕ → Option Record
+read_record m bytes = cond (eqb (length bytes) 16) (Some (record_of m bytes)) None
 
 -- this paper's number of what reading a record answers: "a record not 16 bytes long gives 1"
-abbrev pub record_number : RecordBytes → ℕ
-record_number (Whole r) = 0
-record_number WrongLength = 1
+abbrev pub record_number : Option Record → ℕ
+record_number (Some r) = 0
+record_number None = 1
 
 -- so many records, 16 bytes each
 unfoldable pub records_of : Module → ℕ → List ℕ → List Record

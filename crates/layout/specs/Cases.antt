@@ -1,15 +1,11 @@
 -- Header, record and command bit by bit (01, Trace layout and Commands; 003 table 8), and what a record's bits are to each module
 -- (02, K9). Assumes nothing.
-use Rattle.std.specs.Prelude.{ℕ, zero, suc, ◌+◌, ◌-◌, ◌*◌, ◌^◌, ◌≡◌, refl, Bool, ◌&&◌, not, cond, List, [], ◌∷◌, ◌++◌, eqb, T, replicate}
+use Rattle.std.specs.Prelude.{ℕ, zero, suc, ◌+◌, ◌-◌, ◌*◌, ◌^◌, ◌≡◌, refl, Bool, ◌&&◌, not, cond, List, [], ◌∷◌, ◌++◌, eqb, T, replicate, Option, None, Some}
 use Rattle.units.specs.declared.Module.{Module}
 use Rattle.units.specs.declared.Module.TheVariants.{Bench, Handheld}
 use Rattle.units.specs.Facts.{all_true, same_numbers}
 use Rattle.layout.specs.declared.Header.{Header}
 use Rattle.layout.specs.declared.Record.{Record}
-use Rattle.layout.specs.declared.HeaderBytes.{HeaderBytes}
-use Rattle.layout.specs.declared.HeaderBytes.TheVariants.{Headed, TooShort}
-use Rattle.layout.specs.declared.RecordBytes.{RecordBytes}
-use Rattle.layout.specs.declared.RecordBytes.TheVariants.{Whole, WrongLength}
 use Rattle.layout.specs.declared.Command.{Command}
 use Rattle.layout.specs.declared.Command.TheVariants.{
   Inhibit,
@@ -315,13 +311,13 @@ records_right = tt
 -- ── Bytes ──
 
 -- what bytes read as a header are, and as a record; none where they are too few
-abbrev headed : HeaderBytes → List ℕ
-headed (Headed h) = header_fields h
-headed TooShort = []
+abbrev headed : Option Header → List ℕ
+headed (Some h) = header_fields h
+headed None = []
 
-abbrev recorded : RecordBytes → List ℕ
-recorded (Whole r) = record_fields r
-recorded WrongLength = []
+abbrev recorded : Option Record → List ℕ
+recorded (Some r) = record_fields r
+recorded None = []
 
 abbrev all_fields : List Record → List ℕ
 all_fields [] = []

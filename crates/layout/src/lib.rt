@@ -33,31 +33,18 @@ pub struct Record {
     pub dq: u64,
 }
 
-// What bytes read as a header, or as a record, are.
-#[derive(Clone, Copy)]
-pub enum HeaderBytes {
-    Headed(Header),
-    TooShort,
-}
-
-#[derive(Clone, Copy)]
-pub enum RecordBytes {
-    Whole(Record),
-    WrongLength,
-}
-
-// The commands of 003 table 8.
-#[derive(Clone, Copy)]
+// The commands of 003 table 8, in the order of their codes: CS#, RAS#, CAS#, WE# from LLLL on, then CS# HIGH.
+#[derive(Clone, Copy, PartialEq, Eq)]
 pub enum Command {
-    Inhibit,
-    Nop,
-    Active,
-    Read,
-    Write,
-    Terminate,
-    Precharge,
-    Refresh,
     LoadMode,
+    Refresh,
+    Precharge,
+    Active,
+    Write,
+    Read,
+    Terminate,
+    Nop,
+    Inhibit,
 }
 
 // Eight bytes as one number, "most significant bit first". By `|` and not `+`, and in one expression: of that LLVM makes
@@ -162,92 +149,84 @@ pub fn first_word(bytes: &[u8]) -> u64
 
 // The header at the start of a trace: number 1 is given where there are "under 16 bytes".
 #[tactic(auto, unfolding(crate::specs::Bytes::read_header))]
-pub fn read_header(bytes: &[u8]) -> HeaderBytes
+pub fn read_header(bytes: &[u8]) -> Option<Header>
     ensures { result ≡ read_header bytes.now }
 {
     if bytes.len() < 16 {
-        return HeaderBytes::TooShort;
+        return None;
     }
     let first = first_word(bytes);
     let second = first_word(&bytes[8..16]);
-    HeaderBytes::Headed(header_from(first, second))
+    Some(header_from(first, second))
 }
 
 // One record: "a record not 16 bytes long gives 1".
 #[tactic(auto, unfolding(crate::specs::Bytes::read_record))]
-pub fn read_record(m: Module, bytes: &[u8]) -> RecordBytes
+pub fn read_record(m: Module, bytes: &[u8]) -> Option<Record>
     ensures { result ≡ read_record m bytes.now }
 {
     if bytes.len() == 16 {
         let first = first_word(bytes);
         let second = first_word(&bytes[8..16]);
-        RecordBytes::Whole(record_from(m, first, second))
+        Some(record_from(m, first, second))
     } else {
-        RecordBytes::WrongLength
+        None
     }
 }
 
-// The command of CS#, RAS#, CAS#, WE# as a number of four bits: 003 table 8, from LLLL on. With CS# HIGH all eight
-// codes are COMMAND INHIBIT.
-pub fn command_of(code: u8) -> Command
-    ensures { result ≡ command_of code }
-{
-    match code {
-        0 => Command::LoadMode,
-        1 => Command::Refresh,
-        2 => Command::Precharge,
-        3 => Command::Active,
-        4 => Command::Write,
-        5 => Command::Read,
-        6 => Command::Terminate,
-        7 => Command::Nop,
-        _ => Command::Inhibit,
+impl From<u8> for Command {
+    ghost from_gives = { λ code k. k ≡ command_of code };
+
+    // The command of CS#, RAS#, CAS#, WE# as a number of four bits: 003 table 8, from LLLL on. With CS# HIGH all eight codes are
+    // COMMAND INHIBIT.
+    fn from(code: u8) -> Command {
+        match code {
+            0 => Command::LoadMode,
+            1 => Command::Refresh,
+            2 => Command::Precharge,
+            3 => Command::Active,
+            4 => Command::Write,
+            5 => Command::Read,
+            6 => Command::Terminate,
+            7 => Command::Nop,
+            _ => Command::Inhibit,
+        }
     }
 }
 
-// The number of a command: its code, and 8 for COMMAND INHIBIT, which has eight.
-pub fn code_of(k: Command) -> u8
-    ensures { result ≡ code_of k }
-{
-    match k {
-        Command::LoadMode => 0,
-        Command::Refresh => 1,
-        Command::Precharge => 2,
-        Command::Active => 3,
-        Command::Write => 4,
-        Command::Read => 5,
-        Command::Terminate => 6,
-        Command::Nop => 7,
-        Command::Inhibit => 8,
+impl From<Command> for u8 {
+    ghost from_gives = { λ k n. n ≡ code_of k };
+
+    // The number of a command: its code, and 8 for COMMAND INHIBIT, which has eight.
+    fn from(k: Command) -> u8 {
+        k as u8
     }
 }
 
-// Command k is this one.
-pub fn is(k: Command, this: Command) -> bool
-    ensures { result ≡ is k this }
-{
-    code_of(k) == code_of(this)
-}
+impl Command {
+    // The rules 14 to 22 are asked of these only: all but NOP and COMMAND INHIBIT.
+    pub fn is_executable(self) -> bool
+        ensures { result ≡ executable self }
+    {
+        !matches!(self, Command::Nop | Command::Inhibit)
+    }
 
-// The rules 14 to 22 are asked of these only: all but NOP and COMMAND INHIBIT.
-pub fn is_executable(k: Command) -> bool
-    ensures { result ≡ executable k }
-{
-    code_of(k) < 7
-}
+    // LOAD MODE, AUTO REFRESH and PRECHARGE, which look at each of the four banks.
+    pub fn looks_at_all(self) -> bool
+        ensures { result ≡ looks_at_all self }
+    {
+        matches!(
+            self,
+            Command::LoadMode | Command::Refresh | Command::Precharge
+        )
+    }
 
-// LOAD MODE, AUTO REFRESH and PRECHARGE, which look at each of the four banks.
-pub fn looks_at_all(k: Command) -> bool
-    ensures { result ≡ looks_at_all k }
-{
-    code_of(k) < 3
-}
-
-// READ or WRITE.
-pub fn is_access(k: Command) -> bool
-    ensures { result ≡ access k }
-{
-    is(k, Command::Read) | is(k, Command::Write)
+    // READ or WRITE.
+    pub fn is_access(self) -> bool
+        ensures { result ≡ access self }
+    {
+        matches!(self, Command::Read | Command::Write)
+    }
 }
 
 // A10 HIGH: a READ or WRITE with auto precharge, a PRECHARGE of all four banks.

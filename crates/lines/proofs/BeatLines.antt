@@ -1,10 +1,12 @@
--- Beat lines, laid part by part and record by record. Assumes nothing.
-use Prim.Native.Nat.{ℕ, suc, ◌+◌, ◌*◌, ◌/◌, ◌≤◌, ◌<◌}
-use mathlib.Core.Path.{◌≡◌, refl}
+-- Beat lines, laid part by part and pair by pair. Assumes nothing.
+use Prim.Native.Nat.{ℕ, zero, suc, ◌+◌, ◌/◌, ◌≤◌, ◌<◌}
+use native.Mathlib.Numerals.{add-one}
+use mathlib.Core.Path.{◌≡◌, refl, ap, sym}
 use mathlib.Core.List.{List, [], ◌∷◌, ◌++◌}
 use native.Mathlib.Omega.{arith}
-use lib.ListN.{length, drop, get_or, length-drop}
+use lib.ListN.{length, drop, get_or, drop_of_length-le}
 use lib.Seq.{drop-cons}
+use Rattle.std.specs.Simd.{first_chunks}
 use Rattle.lines.specs.Text.{hex, fields, beat_line, beat_text, beat_lines}
 use Rattle.lines.specs.Place.{Laid, put, lay}
 use Rattle.lines.proofs.Laying.{lay_append}
@@ -17,29 +19,30 @@ line_parts letter ns lanes l =
 
 -- ── The words of all records ──
 
--- two words in front
-pair : (words : List ℕ) (k : ℕ) → k < length words / 2
-    → drop (2 * k) words ≡ get_or words (2 * k) 0 ∷ get_or words (2 * k + 1) 0 ∷ drop (2 * (k + 1)) words
-pair words k h =
-    let next : 2 * (k + 1) ≡ suc (suc (2 * k)) = omega arith in
-    let one : 2 * k + 1 ≡ suc (2 * k) = omega arith in
-    rw (next, one, drop-cons words (2 * k) 0 (omega arith), drop-cons words (suc (2 * k)) 0 (omega arith))
+-- the lines of records k, k + 1, .., from two words each
+pub record_lines : ℕ → List (List ℕ) → List ℕ
+record_lines k [] = []
+record_lines k (pair ∷ more) = beat_text k (get_or pair 0 0) (get_or pair 1 0) ++ record_lines (k + 1) more
 
-pub beats_turn : (words : List ℕ) (k : ℕ) (l : Laid) → k < length words / 2
-    → lay (beat_lines k (drop (2 * k) words)) l
-    ≡ lay (beat_lines (k + 1) (drop (2 * (k + 1)) words)) (lay (beat_text k (get_or words (2 * k) 0) (get_or words (2 * k + 1) 0)) l)
-unfolding beat_lines
-beats_turn words k l h = rw (pair words k h) (lay_append _ _ l)
+-- by twos, the words are the records'
+records_from : (words : List ℕ) (k n : ℕ) → n ≡ length words / 2 → beat_lines k words ≡ record_lines k (first_chunks 2 n words)
+unfolding beat_lines record_lines
+records_from [] k zero h = refl
+records_from [] k (suc n) h = absurd (omega arith)
+records_from (word ∷ []) k zero h = refl
+records_from (word ∷ []) k (suc n) h = absurd (omega arith)
+records_from (word ∷ clock ∷ more) k zero h = absurd (omega arith)
+records_from (word ∷ clock ∷ more) k (suc n) h = ap (λ (text : List ℕ). beat_text k word clock ++ text) (records_from more (k + 1) n (omega arith))
 
--- less than two words hold no beat
-single : (words : List ℕ) (k : ℕ) → length words ≤ 1 → beat_lines k words ≡ []
-unfolding beat_lines
-single [] k h = refl
-single (word ∷ []) k h = refl
-single (word ∷ clock ∷ more) k h = absurd (omega arith)
+pub records_of : (words : List ℕ) (l : Laid) → lay (record_lines 0 (first_chunks 2 (length words / 2) words)) l ≡ lay (beat_lines 0 words) l
+records_of words l = ap (λ (text : List ℕ). lay text l) (sym (records_from words 0 (length words / 2) refl))
 
-pub beats_done : (words : List ℕ) (k : ℕ) (l : Laid) → length words / 2 ≤ k → lay (beat_lines k (drop (2 * k) words)) l ≡ l
-unfolding lay
-beats_done words k l h =
-    let none : beat_lines k (drop (2 * k) words) ≡ [] = single (drop (2 * k) words) k (simp length-drop (omega arith)) in
-    rw none
+pub record_turn : (records : List (List ℕ)) (k : ℕ) (l : Laid) → k < length records
+    → lay (record_lines k (drop k records)) l
+    ≡ lay (record_lines (k + 1) (drop (k + 1) records)) (lay (beat_text k (get_or (get_or records k []) 0 0) (get_or (get_or records k []) 1 0)) l)
+unfolding record_lines
+record_turn records k l h = rw (drop-cons records k [] h, add-one k) (lay_append _ _ l)
+
+pub records_done : (records : List (List ℕ)) (k : ℕ) (l : Laid) → length records ≤ k → lay (record_lines k (drop k records)) l ≡ l
+unfolding lay record_lines
+records_done records k l h = rw (drop_of_length-le records h)

@@ -21,16 +21,6 @@ lay_one byte l = refl
 pub laid_only : {l : Laid} {a b : List ℕ} {i j : ℕ} → laid a i ≡ l → laid b j ≡ l → (a ≡ b) × (i ≡ j)
 laid_only h g = (ap (λ (l : Laid). l.buf) (h ∙ sym g), ap (λ (l : Laid). l.at) (h ∙ sym g))
 
--- ── A text, byte by byte ──
-
-pub text_turn : (text : List ℕ) (i : ℕ) (l : Laid) → i < length text → lay (drop i text) l ≡ lay (drop (i + 1) text) (put (get_or text i 0) l)
-unfolding lay
-text_turn text i l h = rw (add-one, drop-cons text i 0)
-
-pub text_done : (text : List ℕ) (i : ℕ) (l : Laid) → length text ≤ i → lay (drop i text) l ≡ l
-unfolding lay
-text_done text i l h = rw (drop_of_length-le text h)
-
 -- ── Numbers, field by field ──
 
 pub fields_turn : (ns : List ℕ) (i : ℕ) (l : Laid) → i < length ns → lay (fields (drop i ns)) l ≡ lay (fields (drop (i + 1) ns)) (lay (field (get_or ns i 0)) l)

@@ -1,9 +1,8 @@
 -- The last line and the whole report, laid part by part. Assumes nothing.
-use Prim.Native.Nat.{ℕ, zero, suc, ◌-◌, ◌*◌, min}
+use Prim.Native.Nat.{ℕ, zero, suc, ◌*◌, min}
 use mathlib.Core.Path.{◌≡◌, ap}
 use mathlib.Core.List.{List, [], ◌∷◌, ◌++◌}
 use native.Mathlib.Nat.{zero-min, min-zero, suc-min-suc}
-use native.Mathlib.Omega.{arith}
 use lib.ListN.{length, take}
 use Rattle.lines.specs.Text.{ok, refused, field, fields, ok_line, refused_line, beat_lines, record_in, last_line, report}
 use Rattle.lines.specs.Place.{Laid, put, lay}
@@ -28,8 +27,7 @@ take_min (suc n) [] = rw min-zero
 take_min (suc n) (x ∷ l) = rw suc-min-suc (ap (λ (t : List ℕ). x ∷ t) (take_min n l))
 
 pub report_parts : (words : List ℕ) (answer end : ℕ) (l : Laid) → end ≡ min (2 * record_in answer) (length words)
-    → lay (last_line answer) (lay (beat_lines 0 (take (end - 0) words)) l) ≡ lay (report words answer) l
+    → lay (last_line answer) (lay (beat_lines 0 (take end words)) l) ≡ lay (report words answer) l
 unfolding report
 report_parts words answer end l e =
-    let all : end - 0 ≡ end = omega arith in
-    rw (all, e, take_min, lay_append (beat_lines 0 (take (2 * record_in answer) words)) (last_line answer) l)
+    rw (e, take_min, lay_append (beat_lines 0 (take (2 * record_in answer) words)) (last_line answer) l)

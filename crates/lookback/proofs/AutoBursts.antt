@@ -1,4 +1,5 @@
 -- Number 19: what the state holds is finished exactly where every earlier READ and WRITE is. Assumes nothing.
+use Rattle.std.specs.Prelude.{Option, Ok}
 use Prim.Native.Nat.{ℕ, zero, suc, ◌+◌, ◌≤◌}
 use native.Mathlib.Omega.{arith}
 use mathlib.Core.Path.{◌≡◌, refl, ap, sym, ◌∙◌}
@@ -9,7 +10,6 @@ use lib.ListN.{take}
 use borrow.Author.Tests.{le-leb, leb-true}
 use Rattle.units.specs.declared.Clock.{Clock}
 use Rattle.units.specs.declared.Ps.{Ps}
-use Rattle.units.specs.declared.Event.{Event}
 use Rattle.units.proofs.Both.{both, joined}
 use Rattle.layout.specs.declared.Record.{Record}
 use Rattle.layout.specs.declared.Command.TheVariants.{Terminate}
@@ -19,7 +19,6 @@ use Rattle.bursts.specs.declared.Burst.{Burst}
 use Rattle.bursts.specs.Burst.{finished}
 use Rattle.bursts.specs.Bus.{no_reads, reads_finished, bursts_finished}
 use Rattle.rules.specs.declared.Setup.{Setup}
-use Rattle.rules.specs.declared.Verdict.TheVariants.{Taken}
 use Rattle.rules.specs.Numbers.{◌⇒◌}
 use Rattle.rules.specs.Parts.{start}
 use Rattle.rules.specs.Rules.{asks_auto, ask}
@@ -49,20 +48,20 @@ finished_later m n (r ∷ past) h p =
 -- ── Of the bursts held ──
 
 -- a cut finishes nothing
-write_cut : (c : ℕ → Event) (past : List Record) (n : Clock)
+write_cut : (c : ℕ → Option Clock) (past : List Record) (n : Clock)
     → finished (write_length (write_back c past).word) n (write_back c past)
     ≡ finished (write_length (write_back uncut past).word) n (write_back uncut past)
 unfolding finished
 write_cut c past n = ap (λ (b : Burst). finished (write_length b.word) n b) (write_later c past)
 
-each_cut : (c : ℕ → Event) (m : ℕ) (n : Clock) (bs : List Burst)
+each_cut : (c : ℕ → Option Clock) (m : ℕ) (n : Clock) (bs : List Burst)
     → reads_finished n (take m (each_later c bs ++ no_reads)) ≡ reads_finished n (take m (bs ++ no_reads))
 unfolding finished
 each_cut c zero n bs = refl
 each_cut c (suc m) n [] = refl
 each_cut c (suc m) n (b ∷ bs) = ap (λ (y : Bool). finished (length_of b.word) n b && y) (each_cut c m n bs)
 
-reads_cut : (c : ℕ → Event) (m : ℕ) (n : Clock) (past : List Record)
+reads_cut : (c : ℕ → Option Clock) (m : ℕ) (n : Clock) (past : List Record)
     → reads_finished n (take m (reads_back c past ++ no_reads)) ≡ reads_finished n (take m (reads_back uncut past ++ no_reads))
 reads_cut c m n past = rw (reads_later c past) (each_cut c m n (reads_back uncut past))
 
@@ -100,7 +99,7 @@ module _ (u : Setup) (period : Ps) (grade bank row : ℕ) where
       kept =
           let d = tied u period grade bank row past k.1 in
           let s = state_in u.table period grade bank row past in
-          let p : ask u s r ≡ Taken = rw d.state at k.0 in
+          let p : ask u s r ≡ Ok tt = rw d.state at k.0 in
           rw (free_clock past) at (finished_kept u s r p)
 
       go : (v y : Bool) → writes r ≡ v → reads r ≡ y

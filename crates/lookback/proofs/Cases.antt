@@ -22,6 +22,7 @@ use Rattle.rules.specs.Run.{Run, page_after}
 use Rattle.facts.specs.Cases.{cases_by, with_133, bench}
 use Rattle.facts.specs.FurtherCases.{further}
 use Rattle.facts.specs.OrderCases.{all_orders}
+use Rattle.rules.specs.declared.Refusal.TheVariants.{WrongPage}
 use Rattle.hawsehole.specs.Trace.{refused, whole_rules, lent_rules}
 use Rattle.hawsehole.specs.Printed.{bytes, page_with, clean}
 use Rattle.lookback.specs.Past.{masks_at}
@@ -46,6 +47,6 @@ pub printed_back :
     (look_judge with_133 (bytes (8 ∷ 7 ∷ 6 ∷ 5 ∷ 4 ∷ 3 ∷ 2 ∷ 1 ∷ []) (24 ∷ 23 ∷ 22 ∷ 21 ∷ 20 ∷ 19 ∷ 18 ∷ 17 ∷ []))
     (replicate 16384 255)
     ≡ clean (page_with (17 ∷ 18 ∷ 19 ∷ 20 ∷ []) (1 ∷ 2 ∷ 3 ∷ 4 ∷ 5 ∷ 6 ∷ 7 ∷ 8 ∷ [])))
-    × (look_judge with_133 (bytes (replicate 8 0) (replicate 8 0)) (replicate 16383 255) ≡ refused 7 0 (replicate 16383 255))
+    × (look_judge with_133 (bytes (replicate 8 0) (replicate 8 0)) (replicate 16383 255) ≡ refused WrongPage (replicate 16383 255))
 unfolding module_of column_on has_pins lane_masks whole_rules lent_rules table_fits header_from read_header record_from records_of length_of beat_column put_lanes stored page_after allowed banks_found of_closing of_any of_active of_access of_precharged of_precharge of_idle events minima every_rules place_rules minimum_rules mode_rules bus_rules command_rules rules masks_at write_on read_on finished_in beat_in stored_in drives_in clear_in look look_run look_judge
 printed_back = (refl, refl)

@@ -1,4 +1,5 @@
 -- Four READs are enough: an earlier one has no beat left. Assumes nothing.
+use Rattle.std.specs.Prelude.{Option, None, Some}
 use Prim.Native.Nat.{ℕ, zero, suc, ◌+◌, ◌-◌, ◌<◌, ◌≤◌}
 use native.Mathlib.Omega.{arith}
 use mathlib.Core.Path.{◌≡◌, refl, ap, sym, ◌∙◌}
@@ -7,8 +8,6 @@ use mathlib.Core.List.{List, [], ◌∷◌, ◌++◌}
 use lib.ListN.{take, length}
 use borrow.Author.Tests.{lt-ltb, le-ltb, le-leb}
 use Rattle.units.specs.declared.Clock.{Clock}
-use Rattle.units.specs.declared.Event.{Event}
-use Rattle.units.specs.declared.Event.TheVariants.{Never, On}
 use Rattle.units.specs.Time.{clock}
 use Rattle.layout.specs.declared.Record.{Record}
 use Rattle.mode.specs.Word.{latency, length_of, full_page}
@@ -26,9 +25,9 @@ use Rattle.lookback.proofs.Held.{uncut, cuts_from, registered, reads_back, held}
 -- ── Cut for good ──
 
 -- a burst from clock s is cut after it, and by clock x
-abbrev pub Gone : ℕ → ℕ → Event → Type 0
-Gone s x Never = ⊥
-Gone s x (On y) = (s < y.0) × (y.0 ≤ x)
+abbrev pub Gone : ℕ → ℕ → Option Clock → Type 0
+Gone s x None = ⊥
+Gone s x (Some y) = (s < y.0) × (y.0 ≤ x)
 
 -- each of these READs is cut by clock x, and its CL is at most 3
 abbrev pub AllGone : ℕ → List Burst → Type 0
@@ -45,27 +44,27 @@ abbrev pub Words : List Record → Type 0
 Words [] = Unit {0}
 Words (r ∷ past) = (latency (mode_in past) ≤ 3) × Words past
 
-gone_from : (s d x : ℕ) (e : Event) → s ≤ d → Gone d x e → Gone s x e
-gone_from s d x Never h g = g
-gone_from s d x (On y) h g = (omega (arith, g.0), g.1)
+gone_from : (s d x : ℕ) (e : Option Clock) → s ≤ d → Gone d x e → Gone s x e
+gone_from s d x None h g = g
+gone_from s d x (Some y) h g = (omega (arith, g.0), g.1)
 
-gone_least : (s x : ℕ) (e : Event) → Gone s x e → s < x
-gone_least s x Never g = absurd g
-gone_least s x (On y) g = omega (arith, g.0, g.1)
+gone_least : (s x : ℕ) (e : Option Clock) → Gone s x e → s < x
+gone_least s x None g = absurd g
+gone_least s x (Some y) g = omega (arith, g.0, g.1)
 
-gone_cond : (s x : ℕ) (f : Bool) (n : Clock) (e : Event) → s < n.0 → n.0 ≤ x → Gone s x e → Gone s x (cond f (On n) e)
+gone_cond : (s x : ℕ) (f : Bool) (n : Clock) (e : Option Clock) → s < n.0 → n.0 ≤ x → Gone s x e → Gone s x (cond f (Some n) e)
 gone_cond s x true n e h k g = (h, k)
 gone_cond s x false n e h k g = g
 
 -- a record back: c says where each bank's bursts were cut, after the records still to come and by clock x
-gone_back : (x : ℕ) (c : ℕ → Event) (r : Record) (past : List Record) → ((i : ℕ) → Gone (clock_in past r).0 x (c i))
+gone_back : (x : ℕ) (c : ℕ → Option Clock) (r : Record) (past : List Record) → ((i : ℕ) → Gone (clock_in past r).0 x (c i))
     → (s : ℕ) → s < first_free past → (i : ℕ) → Gone s x (cuts_from r past c i)
 gone_back x c r past g s h i =
     gone_cond s x (cuts_write i r) (clock_in past r) (c i) (omega arith)
     (omega (arith, gone_least (clock_in past r).0 x (c i) (g i)))
     (gone_from s (clock_in past r).0 x (c i) (omega arith) (g i))
 
-pub back_gone : (x : ℕ) (c : ℕ → Event) (past : List Record) → Words past
+pub back_gone : (x : ℕ) (c : ℕ → Option Clock) (past : List Record) → Words past
     → ((s : ℕ) → s < first_free past → (i : ℕ) → Gone s x (c i))
     → AllGone x (reads_back c past)
 unfolding reads_back
@@ -85,7 +84,7 @@ back_gone x c (r ∷ past) w g =
 read_cuts : (r : Record) (i : ℕ) → reads r ≡ true → cuts_write i r ≡ true
 read_cuts r i e = rw e
 
-pub back_ordered : (x : ℕ) (c : ℕ → Event) (past : List Record) → first_free past ≤ x → Words past → Ordered x (reads_back c past)
+pub back_ordered : (x : ℕ) (c : ℕ → Option Clock) (past : List Record) → first_free past ≤ x → Words past → Ordered x (reads_back c past)
 unfolding reads_back
 back_ordered x c [] h w = tt
 back_ordered x c (r ∷ past) h w =
@@ -106,9 +105,9 @@ back_ordered x c (r ∷ past) h w =
 -- ── No beat ──
 
 -- lost from clock x on
-gone_lost : (s x : ℕ) (m : Clock) (e : Event) → Gone s x e → x ≤ m.0 → before_cut (clock s) m e ≡ false
-gone_lost s x m Never g h = absurd g
-gone_lost s x m (On y) g h = rw (lt-ltb s y.0 g.0, le-leb y.0 m.0 (omega (arith, g.1)))
+gone_lost : (s x : ℕ) (m : Clock) (e : Option Clock) → Gone s x e → x ≤ m.0 → before_cut (clock s) m e ≡ false
+gone_lost s x m None g h = absurd g
+gone_lost s x m (Some y) g h = rw (lt-ltb s y.0 g.0, le-leb y.0 m.0 (omega (arith, g.1)))
 
 module _ (b : Burst) (x : ℕ) (g : Gone b.start.0 x b.cut) where
   no_beat : (length : ℕ) (endless : Bool) (m : Clock) → x ≤ m.0 → has_beat b length endless m ≡ false

@@ -1,4 +1,5 @@
 -- The state that looking back finds, one taken record more, is what `next` makes of it. Assumes nothing.
+use Rattle.std.specs.Prelude.{None, Some}
 use Prim.Native.Nat.{ℕ, ◌+◌}
 use native.Mathlib.Omega.{arith}
 use mathlib.Core.Path.{◌≡◌, refl, ap₂, ◌∙◌}
@@ -6,7 +7,6 @@ use mathlib.Core.Bool.{Bool, true, false, cond}
 use mathlib.Core.List.{List, [], ◌∷◌}
 use Rattle.units.specs.declared.Clock.{Clock}
 use Rattle.units.specs.declared.Ps.{Ps}
-use Rattle.units.specs.declared.Event.TheVariants.{Never, On}
 use Rattle.units.specs.Time.{at}
 use Rattle.speed.specs.declared.SpeedTable.{SpeedTable}
 use Rattle.layout.specs.declared.Record.{Record}
@@ -75,7 +75,7 @@ module _ (t : SpeedTable) (period : Ps) (grade bank row : ℕ) (r : Record) (pas
         bank = bank;
         row = row;
         number = count past + 1;
-        last = On (clock_in past r);
+        last = Some (clock_in past r);
         startup = startup_step r past i;
         bus = record { write = write_one i; reads = reads_one i; masks = masks_held (r ∷ past) };
       })
@@ -93,8 +93,8 @@ module _ (t : SpeedTable) (period : Ps) (grade bank row : ℕ) (r : Record) (pas
 
 bank_split : (x a b c : Bool) (n : Clock) (addr : ℕ) (p q : Status) (d : Bank)
     → marked x n (cond a (activated addr n) (cond b (with_status p d) (cond c (with_status q d) d)))
-    ≡ bank_of (cond a (Open addr n) (cond b p (cond c q d.status))) (cond a (On n) d.active)
-    (cond x (On n) (cond a Never d.stored))
+    ≡ bank_of (cond a (Open addr n) (cond b p (cond c q d.status))) (cond a (Some n) d.active)
+    (cond x (Some n) (cond a None d.stored))
 bank_split x true b c n addr p q d = refl
 bank_split x false true c n addr p q d = refl
 bank_split x false false true n addr p q d = refl

@@ -1,4 +1,5 @@
 -- The beats of the last WRITE and of the READs since it are the beats that looking back finds. Assumes nothing.
+use Rattle.std.specs.Prelude.{Option}
 use Prim.Native.Nat.{ℕ, ◌+◌, ◌-◌, ◌<◌, ◌≤◌}
 use native.Mathlib.Omega.{arith}
 use mathlib.Core.Path.{◌≡◌, refl, sym, ◌∙◌}
@@ -7,7 +8,6 @@ use mathlib.Core.List.{List, [], ◌∷◌}
 use lib.Dec.{leb, ltb}
 use borrow.Author.Tests.{lt-ltb, le-ltb, lt-leb, le-leb, leb-true, leb-false, ltb-true, ltb-false, eqb-true, ne_eqb}
 use Rattle.units.specs.declared.Clock.{Clock}
-use Rattle.units.specs.declared.Event.{Event}
 use Rattle.units.specs.Time.{clock}
 use Rattle.layout.specs.declared.Record.{Record}
 use Rattle.layout.specs.Commands.{code_of, command}
@@ -59,7 +59,7 @@ module _ (all : List Record) (masks : ℕ) (n : Clock) where
       rw (back_again w n.0 (omega arith), cut r.ba w (omega arith), and-false, and-false, and-false)
       (older_writes v past h (omega arith) cut)
 
-  module _ (c : ℕ → Event) (r : Record) (past : List Record) (s : Summed cuts_write c all (r ∷ past))
+  module _ (c : ℕ → Option Clock) (r : Record) (past : List Record) (s : Summed cuts_write c all (r ∷ past))
       (h : (clock_in past r).0 ≤ n.0) where
     write_same : has_beat (registered c r past) (write_length (mode_in past)) (write_endless (mode_in past)) n
         ≡ (leb (clock_in past r).0 n.0 && write_has all r past (n.0 - (clock_in past r).0))
@@ -80,7 +80,7 @@ module _ (all : List Record) (masks : ℕ) (n : Clock) where
         s.lost i x n.0 (omega arith)
         ∙ rw (lt-ltb x (clock_in past r).0 k, le-leb (clock_in past r).0 n.0 h, e, or-true, or-true)
 
-  pub write_told : (c : ℕ → Event) (past : List Record) → Summed cuts_write c all past → first_free past ≤ n.0 + 1
+  pub write_told : (c : ℕ → Option Clock) (past : List Record) → Summed cuts_write c all past → first_free past ≤ n.0 + 1
       → write_beat (write_back c past) masks n ≡ write_on all masks n past
   unfolding write_beat write_back write_on has_beat
   write_told c [] s h = refl
@@ -166,7 +166,7 @@ module _ (all : List Record) (masks : ℕ) (n : Clock) where
           rest
       go false e rest = rw (e, and-false) rest
 
-  module _ (c : ℕ → Event) (r : Record) (past : List Record) (s : Summed cuts_read c all (r ∷ past))
+  module _ (c : ℕ → Option Clock) (r : Record) (past : List Record) (s : Summed cuts_read c all (r ∷ past))
       (free : (x f : ℕ) → x < first_free (r ∷ past) → stands writes x f all ≡ stands writes x f (r ∷ past)) where
     unwritten : (f : ℕ) → stands writes (clock_in past r).0 f all ≡ false
     unwritten f = free (clock_in past r).0 f (omega arith) ∙ none_after writes (clock_in past r).0 f (r ∷ past) (omega arith)
@@ -184,7 +184,7 @@ module _ (all : List Record) (masks : ℕ) (n : Clock) where
         (by_number (clock_in past r).0 (latency (mode_in past)) n.0 (length_of (mode_in past)) (full_page (mode_in past))
         (λ f. not (stands (cuts_read r.ba) (clock_in past r).0 f all)))
 
-  pub read_told : (c : ℕ → Event) (past : List Record) → Summed cuts_read c all past
+  pub read_told : (c : ℕ → Option Clock) (past : List Record) → Summed cuts_read c all past
       → ((x f : ℕ) → x < first_free past → stands writes x f all ≡ stands writes x f past) → first_free past ≤ n.0 + 1
       → latest_beat (reads_back c past) masks n ≡ read_on all masks n past
   unfolding reads_back read_beat read_on

@@ -1,4 +1,7 @@
 -- THE JUDGE THAT LOOKS BACK IS THE JUDGE: verdict, record, every line and the page, for any number of records. Assumes nothing.
+use Rattle.rules.specs.declared.Refusal.{Refusal}
+use Rattle.rules.specs.Numbers.{Verdict}
+use Rattle.std.specs.Prelude.{Ok, Err}
 use Prim.Native.Nat.{ℕ, ◌+◌, ◌≤◌}
 use native.Mathlib.Omega.{arith}
 use mathlib.Core.Path.{◌≡◌, refl, ap, ap₂, sym, ◌∙◌}
@@ -11,8 +14,6 @@ use Rattle.layout.specs.declared.Record.{Record}
 use Rattle.bursts.specs.Bus.{one_before, two_before, drives_lane, driven, bus_clear}
 use Rattle.rules.specs.declared.State.{State}
 use Rattle.rules.specs.declared.Setup.{Setup}
-use Rattle.rules.specs.declared.Verdict.{Verdict}
-use Rattle.rules.specs.declared.Verdict.TheVariants.{Taken, Refused}
 use Rattle.rules.specs.Parts.{start}
 use Rattle.rules.specs.Rules.{ask}
 use Rattle.rules.specs.After.{own_row}
@@ -61,7 +62,7 @@ module _ (u : Setup) (period : Ps) (grade bank row : ℕ) where
       )
 
   same_line : (past : List Record) (r : Record) → Tied u period grade bank row past
-      → ask u (state_in u.table period grade bank row past) r ≡ Taken
+      → ask u (state_in u.table period grade bank row past) r ≡ Ok tt
       → line (state_in u.table period grade bank row past) r ≡ line_in past r
   same_line past r d p =
       let s = state_in u.table period grade bank row past in
@@ -74,24 +75,24 @@ module _ (u : Setup) (period : Ps) (grade bank row : ℕ) where
 
   -- ── All records ──
 
-  look_taken : (past : List Record) (r : Record) (rs : List Record) → look u (module_of grade) period past r ≡ Taken
+  look_taken : (past : List Record) (r : Record) (rs : List Record) → look u (module_of grade) period past r ≡ Ok tt
       → look_run u (module_of grade) period past (r ∷ rs)
       ≡ with_line (line_in past r) (look_run u (module_of grade) period (r ∷ past) rs)
   unfolding look_run
   look_taken past r rs p = rw (p, look_run)
 
-  look_refused : (past : List Record) (r : Record) (rs : List Record) (n i : ℕ)
-      → look u (module_of grade) period past r ≡ Refused n i
-      → look_run u (module_of grade) period past (r ∷ rs) ≡ record { verdict = Refused n i; reported = count past; lines = [] }
+  look_refused : (past : List Record) (r : Record) (rs : List Record) (w : Refusal)
+      → look u (module_of grade) period past r ≡ Err w
+      → look_run u (module_of grade) period past (r ∷ rs) ≡ record { verdict = Err w; reported = count past; lines = [] }
   unfolding look_run
-  look_refused past r rs n i p = rw (p, look_run)
+  look_refused past r rs w p = rw (p, look_run)
 
-  run_none : (s : State) → run u s [] ≡ record { verdict = Taken; reported = s.core.number; lines = [] }
+  run_none : (s : State) → run u s [] ≡ record { verdict = Ok tt; reported = s.core.number; lines = [] }
   unfolding run
   run_none s = refl
 
   look_none : (past : List Record)
-      → look_run u (module_of grade) period past [] ≡ record { verdict = Taken; reported = count past; lines = [] }
+      → look_run u (module_of grade) period past [] ≡ record { verdict = Ok tt; reported = count past; lines = [] }
   unfolding look_run
   look_none past = refl
 
@@ -99,7 +100,7 @@ module _ (u : Setup) (period : Ps) (grade bank row : ℕ) where
       → look_run u (module_of grade) period past rs ≡ run u (after u (start period grade bank row) past) rs
   same_run past [] k =
       look_none past
-      ∙ (ap (λ (s : State). record { verdict = Taken; reported = s.core.number; lines = [] })
+      ∙ (ap (λ (s : State). record { verdict = Ok tt; reported = s.core.number; lines = [] })
       (sym (tied u period grade bank row past k).state)
       ∙ sym (run_none (after u (start period grade bank row) past)))
   same_run past (r ∷ rs) k = go (ask u (after u (start period grade bank row) past) r) refl (λ p. same_run (r ∷ past) rs (p, k))
@@ -114,10 +115,10 @@ module _ (u : Setup) (period : Ps) (grade bank row : ℕ) where
       answer = ap (λ (x : State). ask u x r) same ∙ same_answer past r k
 
       go : (v : Verdict) → ask u (after u (start period grade bank row) past) r ≡ v
-          → (ask u (after u (start period grade bank row) past) r ≡ Taken
+          → (ask u (after u (start period grade bank row) past) r ≡ Ok tt
           → look_run u (module_of grade) period (r ∷ past) rs ≡ run u (after u (start period grade bank row) (r ∷ past)) rs)
           → look_run u (module_of grade) period past (r ∷ rs) ≡ run u (after u (start period grade bank row) past) (r ∷ rs)
-      go Taken p h =
+      go (Ok o) p h =
           look_taken past r rs (sym answer ∙ p)
           ∙ (ap₂ with_line
           (sym
@@ -125,10 +126,10 @@ module _ (u : Setup) (period : Ps) (grade bank row : ℕ) where
           ∙ same_line past r (tied u period grade bank row past k) (sym (ap (λ (x : State). ask u x r) same) ∙ p)))
           (h p ∙ ap (λ (x : State). run u x rs) (after_more u (start period grade bank row) r past))
           ∙ sym (run_taken u s r rs p))
-      go (Refused n i) p h =
-          look_refused past r rs n i (sym answer ∙ p)
-          ∙ (ap (λ (x : State). record { verdict = Refused n i; reported = x.core.number; lines = [] }) (sym same)
-          ∙ sym (run_refused u s r rs n i p))
+      go (Err w) p h =
+          look_refused past r rs w (sym answer ∙ p)
+          ∙ (ap (λ (x : State). record { verdict = Err w; reported = x.core.number; lines = [] }) (sym same)
+          ∙ sym (run_refused u s r rs w p))
 
   after_none : after u (start period grade bank row) [] ≡ start period grade bank row
   unfolding after

@@ -1,4 +1,5 @@
 -- THE STATE AFTER TAKEN RECORDS IS WHAT LOOKING BACK FINDS. Assumes nothing.
+use Rattle.std.specs.Prelude.{Ok}
 use Prim.Native.Nat.{ℕ, ◌≤◌}
 use native.Mathlib.Omega.{arith}
 use mathlib.Core.Path.{◌≡◌, refl, ap, sym, ◌∙◌}
@@ -24,7 +25,6 @@ use Rattle.layout.specs.Commands.{command, is, access, executable}
 use Rattle.mode.specs.Word.{latency}
 use Rattle.rules.specs.declared.State.{State}
 use Rattle.rules.specs.declared.Setup.{Setup}
-use Rattle.rules.specs.declared.Verdict.TheVariants.{Taken}
 use Rattle.rules.specs.Numbers.{◌⇒◌}
 use Rattle.rules.specs.Parts.{now, start}
 use Rattle.rules.specs.StartUp.{begun, allowed}
@@ -85,7 +85,7 @@ closed_begun t period i r past now a g c = go (closes_all r) (begun (startup_in 
 -- each of these records was taken after those before it
 abbrev pub Took : Setup → State → List Record → Type 0
 Took u s [] = Unit {0}
-Took u s (r ∷ past) = (ask u (after u s past) r ≡ Taken) × Took u s past
+Took u s (r ∷ past) = (ask u (after u s past) r ≡ Ok tt) × Took u s past
 
 -- the state is what looking back finds; nothing is closed before the first PRECHARGE ALL; CL is at most 3, now and at each record
 pub record Tied (u : Setup) (period : Ps) (grade bank row : ℕ) (past : List Record) : Type 0 where
@@ -103,11 +103,11 @@ module _ (u : Setup) (period : Ps) (grade bank row : ℕ) where
   unfolding after write_back reads_back stored_in masks_held
   nothing_yet = record { state = refl; begun = λ i h. absurd (true≢false (sym h)); word = omega arith; words = tt }
 
-  one_more_taken : (r : Record) (past : List Record) → ask u (after u (start period grade bank row) past) r ≡ Taken
+  one_more_taken : (r : Record) (past : List Record) → ask u (after u (start period grade bank row) past) r ≡ Ok tt
       → Tied u period grade bank row past → Tied u period grade bank row (r ∷ past)
   one_more_taken r past k d =
       let s = state_in u.table period grade bank row past in
-      let p : ask u s r ≡ Taken = rw d.state at k in
+      let p : ask u s r ≡ Ok tt = rw d.state at k in
       record {
         state =
             after_more u (start period grade bank row) r past

@@ -1,8 +1,7 @@
 -- A bank by looking back: its last ACTIVE, open or closed, its closing (01, Commands and what each must find). Definitions only.
-use Rattle.std.specs.Prelude.{ℕ, Bool, ◌&&◌, ◌||◌, cond, List, [], ◌∷◌, eqb}
+use Rattle.units.specs.declared.Clock.{Clock}
+use Rattle.std.specs.Prelude.{ℕ, Bool, ◌&&◌, ◌||◌, cond, List, [], ◌∷◌, eqb, Option, None, Some}
 use Rattle.units.specs.declared.Ps.{Ps}
-use Rattle.units.specs.declared.Event.{Event}
-use Rattle.units.specs.declared.Event.TheVariants.{Never, On}
 use Rattle.units.specs.Time.{at}
 use Rattle.speed.specs.declared.SpeedTable.{SpeedTable}
 use Rattle.layout.specs.declared.Record.{Record}
@@ -36,7 +35,7 @@ closes i r = auto_closes i r || precharges i r
 -- ── Its last ACTIVE ──
 
 -- "tRC since its last ACTIVE; tRRD since the last ACTIVE of another bank"
-abbrev pub last_active : ℕ → List Record → Event
+abbrev pub last_active : ℕ → List Record → Option Clock
 last_active i past = last_of (activates i) past
 
 -- the row that the newest of these opened
@@ -61,9 +60,9 @@ back_to_close i [] = []
 back_to_close i (r ∷ past) = cond (activates i r) [] (or_these (back_to_close i past) (cond (closes i r) (r ∷ past) []))
 
 -- auto precharge: "the later of ACTIVE + tRAS min and" the end of the burst
-abbrev pub auto_time : SpeedTable → Ps → Event → Ps → Ps
-auto_time t period Never end = end
-auto_time t period (On n) end = closing_time t period n end
+abbrev pub auto_time : SpeedTable → Ps → Option Clock → Ps → Ps
+auto_time t period None end = end
+auto_time t period (Some n) end = closing_time t period n end
 
 -- the end of the burst that record r after these registers
 abbrev pub end_in : SpeedTable → Ps → Record → List Record → Ps

@@ -1,8 +1,6 @@
 -- The beat on a record's clock, the last store in a bank, and a clear bus, by looking back (01, Beats). Definitions only.
-use Rattle.std.specs.Prelude.{ℕ, Bool, not, ◌&&◌, cond, List, [], ◌∷◌}
+use Rattle.std.specs.Prelude.{ℕ, Bool, not, ◌&&◌, cond, List, [], ◌∷◌, Option, None, Some}
 use Rattle.units.specs.declared.Clock.{Clock}
-use Rattle.units.specs.declared.Event.{Event}
-use Rattle.units.specs.declared.Event.TheVariants.{Never, On}
 use Rattle.layout.specs.declared.Record.{Record}
 use Rattle.bursts.specs.declared.Beat.{Beat}
 use Rattle.bursts.specs.Bus.{one_before, two_before, or_else, drives_lane, stores_in}
@@ -25,10 +23,10 @@ beat_in past r = or_else (stored_on past r) (driven_on (r ∷ past) past (clock_
 
 -- "the last clock on which a byte was stored in it after its ACTIVE", of bank i. A byte on the ACTIVE's own clock is told too;
 -- tWR counts from a later one only (rules/Banks `last_store`)
-unfoldable pub stored_in : ℕ → List Record → Event
-stored_in i [] = Never
+unfoldable pub stored_in : ℕ → List Record → Option Clock
+stored_in i [] = None
 stored_in i (r ∷ past) =
-    cond (stores_in (beat_in past r) i) (On (clock_in past r)) (cond (activates i r) Never (stored_in i past))
+    cond (stores_in (beat_in past r) i) (Some (clock_in past r)) (cond (activates i r) None (stored_in i past))
 
 -- some lane is driven on clock n
 unfoldable pub drives_in : List Record → Clock → Bool

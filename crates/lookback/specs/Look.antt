@@ -1,5 +1,5 @@
 -- The judge that looks back: each record meets the verdict table with what the earlier records show (02, K6). Definitions only.
-use Rattle.std.specs.Prelude.{ℕ, List, [], ◌∷◌}
+use Rattle.std.specs.Prelude.{ℕ, List, [], ◌∷◌, Ok, Err}
 use Rattle.units.specs.declared.Clock.{Clock}
 use Rattle.units.specs.declared.Ps.{Ps}
 use Rattle.units.specs.declared.Module.{Module}
@@ -8,9 +8,7 @@ use Rattle.speed.specs.declared.SpeedTable.{SpeedTable}
 use Rattle.layout.specs.declared.Record.{Record}
 use Rattle.rules.specs.declared.Bank.{Bank}
 use Rattle.rules.specs.declared.Setup.{Setup}
-use Rattle.rules.specs.declared.Verdict.{Verdict}
-use Rattle.rules.specs.declared.Verdict.TheVariants.{Taken, Refused}
-use Rattle.rules.specs.Numbers.{first_broken}
+use Rattle.rules.specs.Numbers.{first_broken, Verdict}
 use Rattle.rules.specs.Parts.{bank_of}
 use Rattle.rules.specs.Rules.{Found, rules}
 use Rattle.rules.specs.Run.{Line, Run, with_line}
@@ -46,9 +44,9 @@ line_in past r = record { clock = clock_in past r; beat = beat_in past r }
 
 -- record after record, each looking back over those before it, up to the first refused one
 unfoldable pub look_run : Setup → Module → Ps → List Record → List Record → Run
-look_run u m period past [] = record { verdict = Taken; reported = count past; lines = [] }
+look_run u m period past [] = record { verdict = Ok tt; reported = count past; lines = [] }
 look_run u m period past (r ∷ rs) =
     elim (look u m period past r) [
-      | Taken ↦ with_line (line_in past r) (look_run u m period (r ∷ past) rs)
-      | Refused n i ↦ record { verdict = Refused n i; reported = count past; lines = [] }
+      | Ok x ↦ with_line (line_in past r) (look_run u m period (r ∷ past) rs)
+      | Err w ↦ record { verdict = Err w; reported = count past; lines = [] }
     ]

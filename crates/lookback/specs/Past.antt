@@ -1,8 +1,6 @@
 -- The earlier records, the newest first: their clocks, those of a kind, their masks (01, Trace layout). Definitions only.
-use Rattle.std.specs.Prelude.{ℕ, suc, ◌+◌, Bool, false, ◌&&◌, ◌||◌, cond, List, [], ◌∷◌, leb, ltb, eqb}
+use Rattle.std.specs.Prelude.{ℕ, suc, ◌+◌, Bool, false, ◌&&◌, ◌||◌, cond, List, [], ◌∷◌, leb, ltb, eqb, Option, None, Some}
 use Rattle.units.specs.declared.Clock.{Clock}
-use Rattle.units.specs.declared.Event.{Event}
-use Rattle.units.specs.declared.Event.TheVariants.{Never, On}
 use Rattle.units.specs.Time.{clock}
 use Rattle.layout.specs.declared.Record.{Record}
 use Rattle.bursts.specs.Bus.{all_high}
@@ -32,12 +30,12 @@ back_to f [] = []
 back_to f (r ∷ past) = cond (f r) (r ∷ past) (back_to f past)
 
 -- the newest of these
-abbrev pub newest : List Record → Event
-newest [] = Never
-newest (r ∷ past) = On (clock_in past r)
+abbrev pub newest : List Record → Option Clock
+newest [] = None
+newest (r ∷ past) = Some (clock_in past r)
 
 -- the last record of which f holds
-abbrev pub last_of : (Record → Bool) → List Record → Event
+abbrev pub last_of : (Record → Bool) → List Record → Option Clock
 last_of f past = newest (back_to f past)
 
 -- how many of them it holds of

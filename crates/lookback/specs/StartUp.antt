@@ -1,16 +1,14 @@
 -- Start-up and the mode loaded, by looking back (01, Start-up). Definitions only.
-use Rattle.std.specs.Prelude.{ℕ, Bool, cond, List, [], ◌∷◌, ltb}
-use Rattle.units.specs.declared.Event.{Event}
-use Rattle.units.specs.declared.Event.TheVariants.{Never, On}
+use Rattle.units.specs.declared.Clock.{Clock}
+use Rattle.std.specs.Prelude.{ℕ, Bool, cond, List, [], ◌∷◌, ltb, Option, None, Some}
 use Rattle.layout.specs.declared.Record.{Record}
 use Rattle.layout.specs.declared.Command.TheVariants.{Refresh, LoadMode}
 use Rattle.layout.specs.Commands.{command, is, precharge_all}
 use Rattle.rules.specs.declared.Refreshes.{Refreshes}
-use Rattle.rules.specs.declared.Refreshes.TheVariants.{None, One, Two}
+use Rattle.rules.specs.declared.Refreshes.TheVariants.{Zero, One, Two}
 use Rattle.rules.specs.declared.Register.{Register}
-use Rattle.rules.specs.declared.Register.TheVariants.{Unloaded, Loaded}
 use Rattle.rules.specs.declared.StartUp.{StartUp}
-use Rattle.rules.specs.Parts.{word_in, startup_of}
+use Rattle.rules.specs.Parts.{word_in, startup_of, loaded}
 use Rattle.lookback.specs.Past.{clock_in, back_to, last_of, count_of}
 
 -- "PRECHARGE ALL"
@@ -26,21 +24,21 @@ abbrev pub loads : Record → Bool
 loads r = is (command r) LoadMode
 
 -- so many refreshes, the last of them here: none, one, or "two or more refreshes done"
-abbrev pub refreshes_by : ℕ → Event → Refreshes
-refreshes_by n Never = None
-refreshes_by n (On x) = cond (ltb n 2) (One x) (Two x)
+abbrev pub refreshes_by : ℕ → Option Clock → Refreshes
+refreshes_by n None = Zero
+refreshes_by n (Some x) = cond (ltb n 2) (One x) (Two x)
 
 -- the refreshes done, and the last of them: 12, and "tRFC since the last refresh"
 abbrev pub refreshes_in : List Record → Refreshes
 refreshes_in past = refreshes_by (count_of refreshes past) (last_of refreshes past)
 
 -- the mode that the newest of these loaded: "Mode word is A12 to A0"
-abbrev pub loaded_by : List Record → Register
-loaded_by [] = Unloaded
-loaded_by (r ∷ past) = Loaded r.addr (clock_in past r)
+abbrev pub loaded_by : List Record → Option Register
+loaded_by [] = None
+loaded_by (r ∷ past) = loaded r.addr (clock_in past r)
 
 -- what the last LOAD MODE left: "tMRD since the last mode load"
-abbrev pub register_in : List Record → Register
+abbrev pub register_in : List Record → Option Register
 register_in past = loaded_by (back_to loads past)
 
 -- the mode loaded

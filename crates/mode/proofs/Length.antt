@@ -1,12 +1,12 @@
 -- The length of a burst is a power of two, at most the row's columns; so a beat's column keeps to its block. Assumes nothing.
-use Prim.Native.Nat.{ℕ, zero, suc, ◌+◌, ◌-◌, ◌*◌, ◌%◌, ◌^◌, ◌≤◌, ◌<◌}
-use mathlib.Core.Path.{◌≡◌, refl, sym}
-use mathlib.Core.Bool.{true}
+use Prim.Native.Nat.{ℕ, zero, suc, ◌+◌, ◌-◌, ◌%◌, ◌^◌, ◌<◌}
+use mathlib.Core.Path.{◌≡◌, refl}
+use mathlib.Core.Bool.{true, false}
 use mathlib.Core.List.{[], ◌∷◌}
-use native.Mathlib.Nat.{mod-lt, mod-eq_of_lt}
+use native.Mathlib.Nat.{mod-lt, mod-eq_of_lt, add-mod-mod}
 use native.Mathlib.Omega.{arith}
 use lib.Bits.{bit_and, bit_xor, and_mask, xor_lt}
-use lib.ListN.{get_or, get_or-eq_default}
+use lib.ListN.{get_or}
 use lib.Pow.{pow_pos}
 use Rattle.units.specs.Module.{bench_columns}
 use Rattle.mode.specs.Word.{length_of, interleaved}
@@ -15,23 +15,6 @@ use Rattle.mode.specs.Order.{in_block}
 -- the length of M2 to M0 = k
 abbrev length_at : ℕ → ℕ
 length_at k = get_or (1 ∷ 2 ∷ 4 ∷ 8 ∷ []) k bench_columns
-
--- past 0 to 3, M2 to M0 mean the row's columns
-pub past_is_columns : (w : ℕ) → 4 ≤ w % 8 → bench_columns ≡ length_of w
-unfolding length_of
-past_is_columns w h = sym (get_or-eq_default (1 ∷ 2 ∷ 4 ∷ 8 ∷ []) bench_columns h)
-
--- 0 to 3 mean 1 shifted by so many bits
-pub shift_is_length : (w : ℕ) → w % 8 < 4 → 1 * 2 ^ (w % 8) % 65_536 ≡ length_of w
-unfolding length_of
-shift_is_length w = go (w % 8)
-  where
-    go : (k : ℕ) → k < 4 → 1 * 2 ^ k % 65_536 ≡ length_at k
-    go zero h = refl
-    go (suc zero) h = refl
-    go (suc (suc zero)) h = refl
-    go (suc (suc (suc zero))) h = refl
-    go (suc (suc (suc (suc k)))) h = absurd (omega arith)
 
 -- the exponent of the length of M2 to M0 = k
 exponent : ℕ → ℕ
@@ -54,6 +37,10 @@ length_is_positive w = rw length_is_power (pow_pos (exponent (w % 8)))
 -- so a column's place in its block is its lowest bits
 pub place_by_mask : (w c : ℕ) → bit_and c (length_of w - 1) ≡ c % length_of w
 place_by_mask w c = rw length_is_power (and_mask c (exponent (w % 8)))
+
+-- sequential: a beat number modulo the length leaves the sum modulo the length
+pub sequential_place : (w s i : ℕ) → interleaved w ≡ false → (s + i % length_of w) % length_of w ≡ in_block w s i
+sequential_place w s i h = rw h (add-mod-mod _ _ _)
 
 -- 003, Burst Length: "All accesses for that burst take place within this block"
 pub stays_in_block : (w s i : ℕ) → in_block w s i < length_of w

@@ -1,4 +1,5 @@
 -- What decoding a mode word shows of it. Assumes nothing.
+use Rattle.std.specs.Prelude.{Option, None, Some}
 use Prim.Native.Nat.{ℕ}
 use native.Mathlib.Omega.{arith}
 use mathlib.Core.Path.{◌≡◌, refl, ap, ◌∙◌}
@@ -6,12 +7,10 @@ use mathlib.Core.Bool.{Bool, true, false, cond}
 use lib.Dec.{eqb}
 use Rattle.units.specs.declared.Module.{Module}
 use Rattle.mode.specs.declared.Mode.{Mode}
-use Rattle.mode.specs.declared.Decoded.{Decoded}
-use Rattle.mode.specs.declared.Decoded.TheVariants.{Known, Reserved}
 use Rattle.mode.specs.Word.{well_formed, legal, mode_of, decoded, decoded_number}
 
 -- number 0 is given exactly to a word that is well formed
-number_zero : (x : Bool) (m : Mode) → eqb (decoded_number (cond x (Known m) Reserved)) 0 ≡ x
+number_zero : (x : Bool) (m : Mode) → eqb (decoded_number (cond x (Some m) None)) 0 ≡ x
 number_zero true m = refl
 number_zero false m = refl
 
@@ -22,12 +21,12 @@ pub record Shown (g : Module) (w : ℕ) (m : Mode) : Type 0 where
   pub legal : legal g w ≡ true
   pub mode : m ≡ mode_of w
 
-pub known : (g : Module) (w : ℕ) (m : Mode) → decoded g w ≡ Known m → Shown g w m
+pub known : (g : Module) (w : ℕ) (m : Mode) → decoded g w ≡ Some m → Shown g w m
 known g w m h = go (well_formed g w) refl h
   where
-    go : (x : Bool) → well_formed g w ≡ x → cond x (Known (mode_of w)) Reserved ≡ Known m → Shown g w m
+    go : (x : Bool) → well_formed g w ≡ x → cond x (Some (mode_of w)) None ≡ Some m → Shown g w m
     go true e h = record { legal = legal_is g w ∙ e; mode = cc }
     go false e h = let z : ◌≡◌ {A = ℕ} 0 1 = cc in absurd (omega arith)
 
-pub reserved : (g : Module) (w : ℕ) → decoded g w ≡ Reserved → legal g w ≡ false
-reserved g w h = ap (λ (d : Decoded). eqb (decoded_number d) 0) h
+pub reserved : (g : Module) (w : ℕ) → decoded g w ≡ None → legal g w ≡ false
+reserved g w h = ap (λ (d : Option Mode). eqb (decoded_number d) 0) h

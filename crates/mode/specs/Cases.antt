@@ -1,10 +1,9 @@
 -- 003 table 6, P6 and P7 of document 01 by columns alone; the mode word field by field, and how many words are legal. Assumes nothing.
-use Rattle.std.specs.Prelude.{ℕ, zero, suc, ◌+◌, ◌*◌, ◌≡◌, refl, Bool, not, cond, List, [], ◌∷◌, ◌++◌, eqb, T}
+use Rattle.mode.specs.declared.Mode.{Mode}
+use Rattle.std.specs.Prelude.{ℕ, zero, suc, ◌+◌, ◌*◌, ◌≡◌, refl, Bool, not, cond, List, [], ◌∷◌, ◌++◌, eqb, T, Option, None, Some}
 use Rattle.units.specs.declared.Module.{Module}
 use Rattle.units.specs.declared.Module.TheVariants.{Bench, Handheld}
 use Rattle.units.specs.Facts.{all_true, same_numbers}
-use Rattle.mode.specs.declared.Decoded.{Decoded}
-use Rattle.mode.specs.declared.Decoded.TheVariants.{Known, Reserved}
 use Rattle.mode.specs.Word.{
   full_page,
   length_of,
@@ -117,9 +116,9 @@ abbrev one_bit : List ℕ
 one_bit = 0x1 ∷ 0x2 ∷ 0x4 ∷ 0x8 ∷ 0x10 ∷ 0x20 ∷ 0x40 ∷ 0x80 ∷ 0x100 ∷ 0x200 ∷ 0x400 ∷ 0x800 ∷ 0x1000 ∷ []
 
 -- length, full page, interleaved, CL and single writes of a mode; none where the word is reserved
-abbrev fields : Decoded → List ℕ
-fields (Known m) = m.length ∷ cond m.fullpage 1 0 ∷ cond m.interleaved 1 0 ∷ m.latency ∷ cond m.single 1 0 ∷ []
-fields Reserved = []
+abbrev fields : Option Mode → List ℕ
+fields (Some m) = m.length ∷ cond m.fullpage 1 0 ∷ cond m.interleaved 1 0 ∷ m.latency ∷ cond m.single 1 0 ∷ []
+fields None = []
 
 -- the bench reads this word so
 abbrev reads : ℕ → List ℕ → Bool

@@ -1,10 +1,8 @@
 -- The mode word, A12 to A0 of a LOAD MODE (01, Commands and what each must find). Definitions only.
-use Rattle.std.specs.Prelude.{ℕ, ◌/◌, ◌%◌, Bool, not, ◌&&◌, ◌||◌, cond, [], ◌∷◌, ltb, eqb, get_or}
+use Rattle.std.specs.Prelude.{ℕ, ◌/◌, ◌%◌, Bool, not, ◌&&◌, ◌||◌, cond, [], ◌∷◌, ltb, eqb, get_or, Option, None, Some}
 use Rattle.units.specs.declared.Module.{Module}
 use Rattle.units.specs.Module.{bench_columns, has_full_page}
 use Rattle.mode.specs.declared.Mode.{Mode}
-use Rattle.mode.specs.declared.Decoded.{Decoded}
-use Rattle.mode.specs.declared.Decoded.TheVariants.{Known, Reserved}
 
 -- M2 to M0: "7 means full page"
 abbrev pub full_page : ℕ → Bool
@@ -45,13 +43,13 @@ mode_of w =
     }
 
 -- a mode word as what decoding it answers
-abbrev pub decoded : Module → ℕ → Decoded
-decoded m w = cond (well_formed m w) (Known (mode_of w)) Reserved
+abbrev pub decoded : Module → ℕ → Option Mode
+decoded m w = cond (well_formed m w) (Some (mode_of w)) None
 
 -- this paper's number of what decoding answers: "All else is 17"
-abbrev pub decoded_number : Decoded → ℕ
-decoded_number (Known mode) = 0
-decoded_number Reserved = 17
+abbrev pub decoded_number : Option Mode → ℕ
+decoded_number (Some mode) = 0
+decoded_number None = 17
 
 -- a word that is not reserved
 abbrev pub legal : Module → ℕ → Bool

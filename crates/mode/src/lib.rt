@@ -17,13 +17,6 @@ pub struct Mode {
     pub single: bool,
 }
 
-// A mode word: a mode, or reserved (number 17).
-#[derive(Clone, Copy)]
-pub enum Decoded {
-    Known(Mode),
-    Reserved,
-}
-
 // M2 to M0: "7 means full page".
 pub fn full_page(w: u16) -> bool
     ensures { result ≡ full_page w }
@@ -67,21 +60,18 @@ pub fn single(w: u16) -> bool
 pub fn legal(m: Module, w: u16) -> bool
     ensures { result ≡ legal m w }
 {
-    let page = m.has_full_page();
-    let cl = latency(w);
-    let m3 = interleaved(w);
-    ((w % 8 < 4) | (page & full_page(w) & !m3))
-        & ((cl == 2) | (cl == 3))
-        & (w / 128 % 4 == 0)
-        & (w / 1_024 == 0)
+    (w % 8 < 4 || m.has_full_page() && full_page(w) && !interleaved(w))
+        && matches!(latency(w), 2 | 3)
+        && w / 128 % 4 == 0
+        && w / 1_024 == 0
 }
 
 // What a LOAD MODE's word says: a mode, or reserved, which is number 17.
-pub fn decode(m: Module, w: u16) -> Decoded
+pub fn decode(m: Module, w: u16) -> Option<Mode>
     ensures { result ≡ decoded m w }
 {
     if legal(m, w) {
-        Decoded::Known(Mode {
+        Some(Mode {
             length: length_of(w),
             fullpage: full_page(w),
             interleaved: interleaved(w),
@@ -89,7 +79,7 @@ pub fn decode(m: Module, w: u16) -> Decoded
             single: single(w),
         })
     } else {
-        Decoded::Reserved
+        None
     }
 }
 
@@ -104,11 +94,11 @@ pub fn write_length(w: u16) -> u16
 pub fn write_endless(w: u16) -> bool
     ensures { result ≡ write_endless w }
 {
-    full_page(w) & !single(w)
+    full_page(w) && !single(w)
 }
 
 // Where column c stands in its block: a burst's length is a power of two, so the block is found by a mask.
-#[tactic(auto, unfolding(crate::specs::Word::length_of))]
+#[tactic(auto, using(crate::proofs::Length::place_by_mask), unfolding(crate::specs::Word::length_of))]
 pub fn block_place(w: u16, c: u64) -> u16
     ensures { result ≡ c % length_of w }
 {
@@ -117,18 +107,20 @@ pub fn block_place(w: u16, c: u64) -> u16
 
 // Beat i inside the block, from start s. Interleaved: start exclusive or beat number. Sequential: start plus beat number, which
 // is taken modulo the length first, so that no sum can pass 64 bits.
+#[tactic(auto, using(crate::proofs::Length::sequential_place))]
 pub fn in_block(w: u16, s: u16, i: u64) -> u16
     ensures { result ≡ in_block w s i }
 {
     let start = s as u64;
     if interleaved(w) {
-        return block_place(w, start ^ i);
+        block_place(w, start ^ i)
+    } else {
+        block_place(w, start + block_place(w, i) as u64)
     }
-    block_place(w, start + block_place(w, i) as u64)
 }
 
 // The column of beat i of a burst from column c. "Full page wraps at 2,048 columns and goes on without end."
-#[tactic(auto, unfolding(crate::specs::Order::beat_column))]
+#[tactic(auto, using(crate::proofs::Length::column_fits), unfolding(crate::specs::Order::beat_column))]
 pub fn beat_column(w: u16, c: u16, i: u64) -> u16
     ensures { result ≡ beat_column w c i }
 {

@@ -1,4 +1,5 @@
 -- Numbers that are put where bank i has its own change bank i, and no other. Assumes nothing.
+use Rattle.std.specs.Prelude.{Option, None, Some}
 use Prim.Native.Nat.{ℕ, zero, suc, ◌+◌, ◌*◌, ◌%◌, ◌<◌}
 use native.Mathlib.Omega.{arith}
 use mathlib.Core.Path.{◌≡◌, refl, ap, sym, subst, ◌∙◌}
@@ -6,8 +7,6 @@ use mathlib.Core.Bool.{true}
 use mathlib.Core.List.{List, [], ◌∷◌}
 use lib.ListN.{length, get_or, set}
 use Rattle.units.specs.declared.Clock.{Clock}
-use Rattle.units.specs.declared.Event.{Event}
-use Rattle.units.specs.declared.Event.TheVariants.{Never, On}
 use Rattle.rules.specs.declared.Status.{Status}
 use Rattle.rules.specs.declared.Status.TheVariants.{NotStarted, Open, Closed}
 use Rattle.rules.specs.declared.Bank.{Bank}
@@ -59,10 +58,10 @@ put_stored l at k n = set (set l (at + 6) k) (at + 7) n
 
 -- ── What was put is read again ──
 
-event_again : (e : Event) → event_in (event_kind e) (event_number e) ≡ e
+event_again : (e : Option Clock) → event_in (event_kind e) (event_number e) ≡ e
 unfolding event_in
-event_again Never = refl
-event_again (On n) = refl
+event_again None = refl
+event_again (Some n) = refl
 
 status_again : (x : Status) → row_of x < 65_536 → status_in (status_kind x) (row_of x) (status_clock x) (status_time x) ≡ x
 unfolding status_in
@@ -78,7 +77,7 @@ pub record StatusNumbers (x : Status) (k r n t : ℕ) : Type 0 where
   pub at_time : t ≡ status_time x
   pub small : r < 65_536
 
-pub record EventNumbers (e : Event) (k n : ℕ) : Type 0 where
+pub record EventNumbers (e : Option Clock) (k n : ℕ) : Type 0 where
   pub kind : k ≡ event_kind e
   pub number : n ≡ event_number e
 
@@ -86,7 +85,7 @@ status_read : {x : Status} {k r n t : ℕ} → StatusNumbers x k r n t → statu
 status_read {x} h =
     (λ i. status_in (h.kind i) (h.row i) (h.on_clock i) (h.at_time i)) ∙ status_again x (omega (arith, h.small, h.row))
 
-event_read : {e : Event} {k n : ℕ} → EventNumbers e k n → event_in k n ≡ e
+event_read : {e : Option Clock} {k n : ℕ} → EventNumbers e k n → event_in k n ≡ e
 event_read {e} h = (λ i. event_in (h.kind i) (h.number i)) ∙ event_again e
 
 -- ── From number p on, where bank i has its own ──

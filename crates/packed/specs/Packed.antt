@@ -1,8 +1,7 @@
 -- The four banks read from numbers in one list, eight to a bank, as the loop over records holds them. The numbers of a bank are those of
 -- words/Words. Definitions only.
-use Rattle.std.specs.Prelude.{ℕ, ◌+◌, ◌*◌, ◌%◌, ◌≡◌, cond, List, [], ◌∷◌, eqb, get_or}
-use Rattle.units.specs.declared.Event.{Event}
-use Rattle.units.specs.declared.Event.TheVariants.{Never, On}
+use Rattle.units.specs.declared.Clock.{Clock}
+use Rattle.std.specs.Prelude.{ℕ, ◌+◌, ◌*◌, ◌%◌, ◌≡◌, cond, List, [], ◌∷◌, eqb, get_or, Option, None, Some}
 use Rattle.units.specs.Time.{clock, time}
 use Rattle.rules.specs.declared.Status.{Status}
 use Rattle.rules.specs.declared.Status.TheVariants.{NotStarted, Open, Closed}
@@ -10,8 +9,8 @@ use Rattle.rules.specs.declared.Bank.{Bank}
 use Rattle.words.specs.Words.{banks_numbers}
 
 -- 0 for an event that has not occurred; any other number, and its clock
-unfoldable pub event_in : ℕ → ℕ → Event
-event_in kind n = cond (eqb kind 0) Never (On (clock n))
+unfoldable pub event_in : ℕ → ℕ → Option Clock
+event_in kind n = cond (eqb kind 0) None (Some (clock n))
 
 -- 0 not started; 1 open, with its row and the clock of its ACTIVE; any other number closed, with the time of its closing
 unfoldable pub status_in : ℕ → ℕ → ℕ → ℕ → Status

@@ -1,7 +1,6 @@
 // Asking and taking with the banks as numbers in a lent array: what the loop over records does with each record's banks.
 ghost use Rattle.std.specs.Prelude.{◌≡◌, ◌≤◌, ◌<◌, ◌%◌};
 ghost use Rattle.units.specs.Time.{at};
-ghost use Rattle.speed.specs.Bounds.{Bounds};
 ghost use Rattle.layout.specs.Commands.{command, executable};
 ghost use Rattle.units.specs.Reach.{Reach, FitPeriod};
 ghost use Rattle.rules.specs.Calls.{BanksFit, Call};
@@ -19,7 +18,8 @@ use crate::numbers;
 use asking::{commands, every};
 use bursts::{Beat, Bus};
 use layout::{Command, Record};
-use rules::{Bank, Core, StartUp, Verdict, closing};
+use rules::timing::Timing;
+use rules::{Bank, Core, Refusal, StartUp, closing};
 use speed::SpeedTable;
 use taking::leaving;
 use units::{Clock, Ps, time};
@@ -45,60 +45,55 @@ fn rows_within(period: Ps, max: Ps, moment: Ps, held: &[u64; 32]) -> bool
     requires { FitPeriod period × BanksFit (banks_in held.now) }
     ensures { result ≡ every (λ b. open_within period max moment b.status) (banks_in held.now) }
 {
-    if !every::open_within(period, max, moment, numbers::status(held, 0)) {
-        return false;
-    }
-    if !every::open_within(period, max, moment, numbers::status(held, 1)) {
-        return false;
-    }
-    if !every::open_within(period, max, moment, numbers::status(held, 2)) {
-        return false;
-    }
-    every::open_within(period, max, moment, numbers::status(held, 3))
+    every::open_within(period, max, moment, numbers::status(held, 0))
+        && every::open_within(period, max, moment, numbers::status(held, 1))
+        && every::open_within(period, max, moment, numbers::status(held, 2))
+        && every::open_within(period, max, moment, numbers::status(held, 3))
 }
 
 // "14 to 22 only on executable commands." Banks are read where a command asks for them: what is read before it is known which
 // command runs, is read for each.
-fn ask_command(t: SpeedTable, c: Core, held: &[u64; 32], r: Record, n: Clock, moment: Ps) -> Verdict
+fn ask_command(
+    t: SpeedTable,
+    c: Core,
+    held: &[u64; 32],
+    r: Record,
+    n: Clock,
+    moment: Ps,
+) -> Result<(), Refusal>
     requires { Call t c (banks_in held.now) r × (n.0 ≤ clock_max) }
     ensures { result ≡ first_broken (asked (executable (command r))
         (command_rules (command r) t (core_module c) c.period (found c (banks_in held.now) n) r n moment)) }
 {
-    let k = layout::command_of(r.code);
-    if layout::looks_at_all(k) {
-        let all = numbers::banks(held);
-        return commands::ask_banks(k, t, c, all, r, n, moment);
+    let k = Command::from(r.code);
+    match k {
+        Command::LoadMode | Command::Refresh | Command::Precharge => {
+            commands::ask_banks(k, t, c, numbers::banks(held), r, n, moment)
+        }
+        Command::Active => {
+            let own = numbers::bank(held, r.ba);
+            commands::ask_active(t, c, own, numbers::banks(held), r, n, moment)
+        }
+        Command::Write | Command::Read | Command::Terminate => {
+            let own = numbers::bank(held, r.ba);
+            commands::ask_burst(k, t, c, own, numbers::banks(held), r, n, moment)
+        }
+        Command::Nop | Command::Inhibit => Ok(()),
     }
-    if layout::is(k, Command::Active) {
-        let own = numbers::bank(held, r.ba);
-        let all = numbers::banks(held);
-        return commands::ask_active(t, c, own, all, r, n, moment);
-    }
-    if layout::is_executable(k) {
-        let own = numbers::bank(held, r.ba);
-        let all = numbers::banks(held);
-        return commands::ask_burst(k, t, c, own, all, r, n, moment);
-    }
-    Verdict::Taken
 }
 
 // May record r stand on clock n?
 #[tactic(auto, unfolding(rules::specs::Rules::rules))]
-pub fn ask(t: SpeedTable, c: Core, held: &[u64; 32], r: Record, n: Clock) -> Verdict
+pub fn ask(t: SpeedTable, c: Core, held: &[u64; 32], r: Record, n: Clock) -> Result<(), Refusal>
     requires { Call t c (banks_in held.now) r × Reach c.period n }
     ensures { result ≡ first_broken (rules t (core_module c) c.period (found c (banks_in held.now) n) r n (at c.period n)) }
 {
     let moment = time::at(c.period, n);
-    let startup = c.startup;
-    let refreshes = startup.refreshes;
-    let v = every::ask_moment(t, c.period, refreshes, r, n, moment);
-    let Verdict::Taken = v else {
-        return v;
-    };
-    if rows_within(c.period, t.trasmax, moment, held) {
-        return ask_command(t, c, held, r, n, moment);
+    every::ask_moment(t, c.period, c.startup.refreshes, r, n, moment)?;
+    if !rows_within(c.period, t.trasmax, moment, held) {
+        return Err(Refusal::LongRow);
     }
-    Verdict::refused(13)
+    ask_command(t, c, held, r, n, moment)
 }
 
 // The bus after the command, with the mode word and the open row that it finds.
@@ -121,30 +116,30 @@ pub fn move_bus(
 #[tactic(auto, unfolding(rules::specs::After::commanded))]
 pub fn move_banks(
     k: Command,
-    t: SpeedTable,
-    period: Ps,
+    timing: Timing,
     startup: StartUp,
     r: Record,
     n: Clock,
     held: &mut [u64; 32],
 )
-    requires { Bounds t × FitPeriod period × BanksFit (banks_in held.old) × (n.0 ≤ clock_max) × (r.ba < 4) × (Packed held.old) }
-    ensures { Held held.new (commanded k t period (burst_end k t period (word_in startup.register) n) (begun startup) r n (at period n) (banks_in held.old)) }
+    requires { BanksFit (banks_in held.old) × (n.0 ≤ clock_max) × (r.ba < 4) × (Packed held.old) }
+    ensures { Held held.new (commanded k timing.table timing.period (burst_end k timing.table timing.period (word_in startup.register) n)
+        (begun startup) r n (at timing.period n) (banks_in held.old)) }
 {
-    if layout::is(k, Command::Active) {
+    if k == Command::Active {
         let opened = leaving::activated(r.addr, n);
         numbers::put_bank(held, r.ba, opened);
         return;
     }
     if closing::asks_auto(k, r) {
         let status = numbers::status(held, r.ba);
-        let closed = leaving::self_closed(k, t, period, startup, n, status);
+        let closed = leaving::self_closed(k, timing, startup, n, status);
         numbers::put_status(held, r.ba, closed);
         return;
     }
-    if layout::looks_at_all(k) {
+    if k.looks_at_all() {
         let all = numbers::banks(held);
-        let moved = leaving::banks_moved(k, t, period, startup, r, n, all);
+        let moved = leaving::banks_moved(k, timing, startup, r, n, all);
         numbers::put_banks(held, moved);
     }
 }
@@ -155,8 +150,7 @@ pub fn mark_bank(beat: Beat, n: Clock, held: &mut [u64; 32])
     requires { Packed held.old }
     ensures { Held held.new (mark_banks beat n (banks_in held.old)) }
 {
-    if leaving::stores(beat) {
-        let i = leaving::bank_of(beat);
+    if let Some(i) = leaving::stored_in(beat) {
         numbers::put_stored(held, i, n);
     }
 }

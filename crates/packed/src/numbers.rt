@@ -1,39 +1,39 @@
 // The four banks as numbers in one array, eight to a bank, for the loop over records: the array is lent to what asks and changes
 // them, where banks that are handed on would be copied for each record. Each number is of one kind, a clock or a time, a row or which
-// variant it is, and only this file reads and writes them.
+// variant it is, and only this file reads and writes them. It is an array, and no type that knows its banks: `inplace::ask` and `banks`
+// promise their answer for every 32 numbers.
 ghost use Rattle.std.specs.Prelude.{◌≡◌, true, ◌%◌, ◌*◌, set};
 ghost use Rattle.rules.specs.Banks.{bank_at};
 ghost use Rattle.rules.specs.After.{with_status, marked};
 ghost use Rattle.packed.specs.Packed.{event_in, status_in, bank_in, banks_in, Held, Packed};
 ghost use Rattle.words.specs.Words.{event_kind, event_number, status_kind, status_clock, status_time};
 
-use rules::{Bank, Status, banks};
-use units::{Clock, Event, Ps};
+use rules::{Bank, Status};
+use std::array;
+use units::{Clock, Ps};
 
 #[tactic(auto, unfolding(crate::specs::Packed::event_in))]
-fn event_in(kind: u64, n: u64) -> Event
+fn event_in(kind: u64, n: u64) -> Option<Clock>
     ensures { result ≡ event_in kind n }
 {
-    if kind == 0 {
-        return Event::Never;
+    match kind {
+        0 => None,
+        _ => Some(Clock(n)),
     }
-    Event::On(Clock(n))
 }
 
 #[tactic(auto, unfolding(crate::specs::Packed::status_in))]
 fn status_in(kind: u64, row: u64, n: u64, t: u64) -> Status
     ensures { result ≡ status_in kind row n t }
 {
-    if kind == 0 {
-        return Status::NotStarted;
+    match kind {
+        0 => Status::NotStarted,
+        1 => Status::Open {
+            row: (row % 65_536) as u16,
+            active: Clock(n),
+        },
+        _ => Status::Closed { closing: Ps(t) },
     }
-    if kind == 1 {
-        let row = (row % 65_536) as u16;
-        let active = Clock(n);
-        return Status::Open { row, active };
-    }
-    let closing = Ps(t);
-    Status::Closed { closing }
 }
 
 // The number from which a bank's numbers stand.
@@ -71,28 +71,24 @@ pub fn bank(held: &[u64; 32], i: u8) -> Bank
 pub fn banks(held: &[u64; 32]) -> [Bank; 4]
     ensures { result ≡ banks_in held.now }
 {
-    let a = bank(held, 0);
-    let b = bank(held, 1);
-    let c = bank(held, 2);
-    let d = bank(held, 3);
-    [a, b, c, d]
+    array::from_fn(|i| bank(held, i as u8))
 }
 
-fn event_kind(e: Event) -> u64
+fn event_kind(e: Option<Clock>) -> u64
     ensures { result ≡ event_kind e }
 {
     match e {
-        Event::Never => 0,
-        Event::On(_) => 1,
+        None => 0,
+        Some(_) => 1,
     }
 }
 
-fn event_number(e: Event) -> u64
+fn event_number(e: Option<Clock>) -> u64
     ensures { result ≡ event_number e }
 {
     match e {
-        Event::Never => 0,
-        Event::On(n) => n.0,
+        None => 0,
+        Some(n) => n.0,
     }
 }
 
@@ -101,8 +97,8 @@ fn status_kind(x: Status) -> u64
 {
     match x {
         Status::NotStarted => 0,
-        Status::Open { row: _, active: _ } => 1,
-        Status::Closed { closing: _ } => 2,
+        Status::Open { .. } => 1,
+        Status::Closed { .. } => 2,
     }
 }
 
@@ -111,9 +107,8 @@ fn status_clock(x: Status) -> u64
     ensures { result ≡ status_clock x }
 {
     match x {
-        Status::NotStarted => 0,
-        Status::Open { row: _, active } => active.0,
-        Status::Closed { closing: _ } => 0,
+        Status::Open { active, .. } => active.0,
+        Status::NotStarted | Status::Closed { .. } => 0,
     }
 }
 
@@ -122,9 +117,8 @@ fn status_time(x: Status) -> u64
     ensures { result ≡ status_time x }
 {
     match x {
-        Status::NotStarted => 0,
-        Status::Open { row: _, active: _ } => 0,
         Status::Closed { closing } => closing.0,
+        Status::NotStarted | Status::Open { .. } => 0,
     }
 }
 
@@ -135,7 +129,7 @@ pub fn put_status(held: &mut [u64; 32], i: u8, x: Status)
 {
     let at = place(i);
     held[at] = status_kind(x);
-    held[at + 1] = banks::row_of(x) as u64;
+    held[at + 1] = x.row() as u64;
     held[at + 2] = status_clock(x);
     held[at + 3] = status_time(x);
 }
@@ -156,25 +150,23 @@ pub fn put_bank(held: &mut [u64; 32], i: u8, b: Bank)
     ensures { Held held.new (set (banks_in held.old) (i % 4) b) }
 {
     let at = place(i);
-    let status = b.status;
-    let active = b.active;
-    let stored = b.stored;
-    held[at] = status_kind(status);
-    held[at + 1] = banks::row_of(status) as u64;
-    held[at + 2] = status_clock(status);
-    held[at + 3] = status_time(status);
-    held[at + 4] = event_kind(active);
-    held[at + 5] = event_number(active);
-    held[at + 6] = event_kind(stored);
-    held[at + 7] = event_number(stored);
+    held[at] = status_kind(b.status);
+    held[at + 1] = b.status.row() as u64;
+    held[at + 2] = status_clock(b.status);
+    held[at + 3] = status_time(b.status);
+    held[at + 4] = event_kind(b.active);
+    held[at + 5] = event_number(b.active);
+    held[at + 6] = event_kind(b.stored);
+    held[at + 7] = event_number(b.stored);
 }
 
 pub fn put_banks(held: &mut [u64; 32], all: [Bank; 4])
     requires { Packed held.old }
     ensures { Held held.new all }
 {
-    put_bank(held, 0, all[0]);
-    put_bank(held, 1, all[1]);
-    put_bank(held, 2, all[2]);
-    put_bank(held, 3, all[3]);
+    let [a, b, c, d] = all;
+    put_bank(held, 0, a);
+    put_bank(held, 1, b);
+    put_bank(held, 2, c);
+    put_bank(held, 3, d);
 }

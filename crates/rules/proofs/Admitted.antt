@@ -1,4 +1,6 @@
 -- Number 25 passes a state exactly where it is admitted. Assumes nothing.
+use Rattle.units.specs.declared.Clock.{Clock}
+use Rattle.std.specs.Prelude.{Option, None, Some}
 use Prim.Native.Nat.{ℕ, zero, suc}
 use mathlib.Core.Path.{◌≡◌, refl, ap, ◌∙◌}
 use mathlib.Core.Bool.{true, ◌&&◌, and-true}
@@ -8,17 +10,14 @@ use mathlib.Core.List.{List, [], ◌∷◌}
 use borrow.Author.Tests.{leb-true, ltb-true, le-leb, lt-ltb}
 use Rattle.units.specs.declared.Module.{Module}
 use Rattle.units.specs.Module.{rows}
-use Rattle.units.specs.declared.Event.{Event}
-use Rattle.units.specs.declared.Event.TheVariants.{Never, On}
 use Rattle.units.proofs.Both.{both, joined}
 use Rattle.mode.specs.Word.{legal}
 use Rattle.bursts.specs.declared.Burst.{Burst}
 use Rattle.bursts.specs.declared.Bus.{Bus}
 use Rattle.bursts.proofs.Four.{burst, four}
 use Rattle.rules.specs.declared.Refreshes.{Refreshes}
-use Rattle.rules.specs.declared.Refreshes.TheVariants.{None, One, Two}
+use Rattle.rules.specs.declared.Refreshes.TheVariants.{Zero, One, Two}
 use Rattle.rules.specs.declared.Register.{Register}
-use Rattle.rules.specs.declared.Register.TheVariants.{Unloaded, Loaded}
 use Rattle.rules.specs.declared.StartUp.{StartUp}
 use Rattle.rules.specs.declared.Status.{Status}
 use Rattle.rules.specs.declared.Status.TheVariants.{NotStarted, Open, Closed}
@@ -60,9 +59,9 @@ use Rattle.rules.specs.Admitted.{
 
 -- ── From the test to the facts ──
 
-event_fit : (e : Event) → event_fits e ≡ true → FitEvent e
-event_fit Never h = tt
-event_fit (On x) h = leb-true _ _ h
+event_fit : (e : Option Clock) → event_fits e ≡ true → FitEvent e
+event_fit None h = tt
+event_fit (Some x) h = leb-true _ _ h
 
 module _ (m : Module) where
   status_both : (x : Status) → status_fits m x ≡ true → FitStatus x × StatusOn m x
@@ -102,9 +101,9 @@ module _ (m : Module) where
   bus_by : (P : Burst → Type 0) → ((b : Burst) → burst_fits m b ≡ true → P b) → (u : Bus) → bus_fits m u ≡ true → EachBurst P u
   bus_by P one u h = let p = both _ _ h in record { write = one u.write p.0; reads = each_burst_by P one u.reads p.1 }
 
-  register_both : (x : Register) → register_fits m x ≡ true → FitRegister x × RegisterOn m x
-  register_both Unloaded h = (tt, tt)
-  register_both (Loaded word n) h = let p = both (legal m word) _ h in (leb-true _ _ p.1, p.0)
+  register_both : (x : Option Register) → register_fits m x ≡ true → FitRegister x × RegisterOn m x
+  register_both None h = (tt, tt)
+  register_both (Some l) h = let p = both (legal m l.word) _ h in (leb-true _ _ p.1, p.0)
 
   startup_both : (u : StartUp) → startup_fits m u ≡ true → FitStartUp u × RegisterOn m u.register
   startup_both u h =
@@ -150,9 +149,9 @@ admitted s h =
 
 -- ── From the facts to the test ──
 
-fit_event : (e : Event) → FitEvent e → event_fits e ≡ true
-fit_event Never f = refl
-fit_event (On x) f = le-leb _ _ f
+fit_event : (e : Option Clock) → FitEvent e → event_fits e ≡ true
+fit_event None f = refl
+fit_event (Some x) f = le-leb _ _ f
 
 module _ (m : Module) where
   fit_status : (x : Status) → FitStatus x → StatusOn m x → status_fits m x ≡ true
@@ -182,9 +181,9 @@ module _ (m : Module) where
   fit_bursts [] f o = refl
   fit_bursts (b ∷ bs) f o = joined (fit_burst b f.0 o.0) (fit_bursts bs f.1 o.1)
 
-  fit_register : (x : Register) → FitRegister x → RegisterOn m x → register_fits m x ≡ true
-  fit_register Unloaded f o = refl
-  fit_register (Loaded word n) f o = joined o (le-leb _ _ f)
+  fit_register : (x : Option Register) → FitRegister x → RegisterOn m x → register_fits m x ≡ true
+  fit_register None f o = refl
+  fit_register (Some l) f o = joined o (le-leb _ _ f)
 
   fit_startup : (u : StartUp) → FitStartUp u → RegisterOn m u.register → startup_fits m u ≡ true
   fit_startup u f o =
@@ -220,12 +219,12 @@ bank_fits_at = bank_among FitBank (record { status = tt; active = tt; stored = t
 pub bank_on_at : (m : Module) (bs : List Bank) (i : ℕ) → Each (BankOn m) bs → BankOn m (bank_at bs i)
 bank_on_at m = bank_among (BankOn m) tt
 
-pub load_fits : (x : Register) → FitRegister x → FitEvent (last_load x)
-load_fits Unloaded h = tt
-load_fits (Loaded word n) h = h
+pub load_fits : (x : Option Register) → FitRegister x → FitEvent (last_load x)
+load_fits None h = tt
+load_fits (Some l) h = h
 
 pub counted_fits : (f : Refreshes) → FitEvent (last_refresh f) → FitEvent (counted_refresh f)
-counted_fits None h = tt
+counted_fits Zero h = tt
 counted_fits (One n) h = tt
 counted_fits (Two n) h = h
 

@@ -1,5 +1,6 @@
 -- DEMAND 3 by records and by state: a table that is nowhere harder never stops earlier; beats and page agree up to the harder table's stop.
 -- Two runs are held side by side: their cores are equal, and a bank may differ only in an earlier closing time. Assumes nothing.
+use Rattle.std.specs.Prelude.{Ok}
 use Prim.Native.Nat.{ℕ, ◌≤◌}
 use native.Mathlib.Omega.{arith}
 use mathlib.Core.Path.{◌≡◌, refl, ap, sym, subst, ◌∙◌}
@@ -11,7 +12,6 @@ use Rattle.layout.specs.declared.Record.{Record}
 use Rattle.rules.specs.declared.Bank.{Bank}
 use Rattle.rules.specs.declared.Core.{Core}
 use Rattle.rules.specs.declared.State.{State}
-use Rattle.rules.specs.declared.Verdict.TheVariants.{Taken}
 use Rattle.rules.specs.Parts.{clock_of}
 use Rattle.rules.specs.After.{own_row, beat, core_after, banks_after, next}
 use Rattle.rules.specs.Run.{Line, Run, line, with_line, run}
@@ -25,7 +25,7 @@ pub record Follows (a b : Run) : Type 0 where
   pub more : List Line
   pub lines : b.lines ≡ a.lines ++ more
   pub no_earlier : a.reported ≤ b.reported
-  pub clean : a.verdict ≡ Taken → a ≡ b
+  pub clean : a.verdict ≡ Ok tt → a ≡ b
 
 follows_line : (l : Line) {a b : Run} → Follows a b → Follows (with_line l a) (with_line l b)
 follows_line l f =
@@ -50,7 +50,7 @@ module _ {t u : SpeedTable} (e : NowhereHarder t u) where
       (run (setup u) (state_of (core_after c r m) (banks_after u c r (beat c r m) ds)) rs)))
       (near_row (near_at h r.ba))
       (follows_line (line (state_of c bs) r) (follows (core_after c r row) (near_after e c r (beat c r row) h) rs))))
-      (λ n i p. record {
+      (λ w p. record {
         more = (run (setup u) (state_of c ds) (r ∷ rs)).lines;
         lines = refl;
         no_earlier = omega (arith, reports (setup u) (state_of c ds) (r ∷ rs));
@@ -64,7 +64,7 @@ demand_3 e s rs = follows e s.core (near_self s.banks) rs
 -- the records before the harder table's stop: the easier table takes them all, with the same lines
 pub demand_3_before : {t u : SpeedTable} → NowhereHarder t u → (s : State) (rs : List Record)
     → run (setup u) s (take (length (run (setup t) s rs).lines) rs)
-    ≡ record { verdict = Taken; reported = (run (setup t) s rs).reported; lines = (run (setup t) s rs).lines }
+    ≡ record { verdict = Ok tt; reported = (run (setup t) s rs).reported; lines = (run (setup t) s rs).lines }
 demand_3_before {t} e s rs =
     let h = before_stop (setup t) s rs in
     sym ((demand_3 e s (take (length (run (setup t) s rs).lines) rs)).clean (ap (λ (a : Run). a.verdict) h)) ∙ h

@@ -1,4 +1,5 @@
 -- Under a table that is nowhere harder: each rule that the harder table keeps is kept, and what a record leaves is near. Assumes nothing.
+use Rattle.std.specs.Prelude.{Option, None, Some, Ok}
 use Prim.Native.Nat.{ℕ, ◌≤◌}
 use native.Mathlib.Nat.{le_refl, mul-le-mul_right}
 use native.Mathlib.Omega.{arith}
@@ -8,8 +9,6 @@ use mathlib.Core.List.{List, []}
 use lib.Dec.{eqb}
 use Rattle.units.specs.declared.Clock.{Clock}
 use Rattle.units.specs.declared.Ps.{Ps}
-use Rattle.units.specs.declared.Event.{Event}
-use Rattle.units.specs.declared.Event.TheVariants.{Never, On}
 use Rattle.units.specs.Time.{at}
 use Rattle.speed.specs.declared.SpeedTable.{SpeedTable}
 use Rattle.units.specs.declared.Module.{Module}
@@ -28,7 +27,6 @@ use Rattle.rules.specs.declared.Bank.{Bank}
 use Rattle.rules.specs.declared.Core.{Core}
 use Rattle.rules.specs.declared.State.{State}
 use Rattle.rules.specs.declared.Setup.{Setup}
-use Rattle.rules.specs.declared.Verdict.TheVariants.{Taken}
 use Rattle.rules.specs.Numbers.{tRCD, tRAS, tRC, tRP, tRRD, tRFC, tWR, tMRD}
 use Rattle.rules.specs.Parts.{clock_of, now, word_in, word, core_module}
 use Rattle.rules.specs.StartUp.{begun, counted_refresh}
@@ -104,9 +102,9 @@ module _ {t u : SpeedTable} (e : NowhereHarder t u) where
       one (Open row active) = ⊑_leb (le_refl n.0) (omega (arith, e.trasmax))
       one (Closed p) = ⊑_self
 
-  ⊑_within : (period n : Ps) (x : Event) → within period t.interval n x ⊑ within period u.interval n x
-  ⊑_within period n Never = ⊑_self
-  ⊑_within period n (On x) = ⊑_leb (le_refl n.0) (omega (arith, e.interval))
+  ⊑_within : (period n : Ps) (x : Option Clock) → within period t.interval n x ⊑ within period u.interval n x
+  ⊑_within period n None = ⊑_self
+  ⊑_within period n (Some x) = ⊑_leb (le_refl n.0) (omega (arith, e.interval))
 
   ⊑_closes : (period : Ps) {x y : Ps} → y.0 ≤ x.0 → (b d : Bank) → Near b d → closes_within t period x b.status ⊑ closes_within u period y d.status
   ⊑_closes period h b d (earlier g) = ⊑_self
@@ -179,7 +177,7 @@ module _ {t u : SpeedTable} (e : NowhereHarder t u) where
       ⧺ (softer_mode k m period r ⧺ softer_bus k period (word_in v.register) finished clear r n _ _ (near_at h r.ba))))
 
   pub easier_taken : (c : Core) (r : Record) {bs ds : List Bank} → NearBanks bs ds
-      → ask (setup t) (state_of c bs) r ≡ Taken → ask (setup u) (state_of c ds) r ≡ Taken
+      → ask (setup t) (state_of c bs) r ≡ Ok tt → ask (setup u) (state_of c ds) r ≡ Ok tt
   unfolding ask
   easier_taken c r h p =
       let f = found c [] (clock_of c r) in
@@ -192,7 +190,7 @@ module _ {t u : SpeedTable} (e : NowhereHarder t u) where
   near_auto period h b d (earlier g) = earlier g
   near_auto period {x} {y} h b d same = one b.status b.active b.stored
     where
-      one : (s : Status) (a w : Event)
+      one : (s : Status) (a w : Option Clock)
           → Near (record { status = auto_closed t period x s; active = a; stored = w }) (record { status = auto_closed u period y s; active = a; stored = w })
       one NotStarted a w = same
       one (Open row n) a w = earlier (closing_le period n h)

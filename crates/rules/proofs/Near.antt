@@ -1,4 +1,5 @@
 -- Laws of states that differ in closing times only: the events that minima count from are the same, or earlier. Assumes nothing.
+use Rattle.std.specs.Prelude.{Option}
 use Prim.Native.Nat.{ℕ, zero, suc, ◌≤◌}
 use native.Mathlib.Nat.{le_refl}
 use native.Mathlib.Omega.{arith}
@@ -8,7 +9,6 @@ use mathlib.Core.List.{List, [], ◌∷◌, ◌++◌}
 use lib.Dec.{eqb}
 use Rattle.units.specs.declared.Clock.{Clock}
 use Rattle.units.specs.declared.Ps.{Ps}
-use Rattle.units.specs.declared.Event.{Event}
 use Rattle.units.specs.Time.{clocks_of}
 use Rattle.layout.specs.declared.Record.{Record}
 use Rattle.layout.specs.declared.Command.{Command}
@@ -120,7 +120,7 @@ lower_closing (earlier h) = low h end
 
 -- what does not read the closing time is the same
 abbrev blind : (Bank → List Clock) → Type 0
-blind f = (p q : Ps) (a s : Event)
+blind f = (p q : Ps) (a s : Option Clock)
     → f (record { status = Closed p; active = a; stored = s }) ≡ f (record { status = Closed q; active = a; stored = s })
 
 lower_from : (k : ℕ) (period : Ps) (f : Bank → List Clock) → blind f → {b d : Bank} → Near b d → Lower (from k period (f b)) (from k period (f d))

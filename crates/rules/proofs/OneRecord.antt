@@ -1,4 +1,5 @@
 -- The one-record call: a refused record leaves state and page as they were; DEMAND 3 by state. Assumes nothing.
+use Rattle.std.specs.Prelude.{Ok, Err}
 use Prim.Native.Nat.{ℕ, ◌≤◌, ◌<◌}
 use native.Mathlib.Nat.{le_refl}
 use native.Mathlib.Omega.{arith}
@@ -21,14 +22,13 @@ use Rattle.layout.specs.Commands.{command, executable}
 use Rattle.layout.proofs.Widths.{record_fits, record_on}
 use Rattle.bursts.specs.declared.Beat.TheVariants.{Quiet}
 use Rattle.page.specs.Store.{stored}
+use Rattle.rules.specs.declared.Refusal.{Refusal}
 use Rattle.rules.specs.declared.Bank.{Bank}
 use Rattle.rules.specs.declared.Core.{Core}
 use Rattle.rules.specs.declared.State.{State}
 use Rattle.rules.specs.declared.Setup.{Setup}
-use Rattle.rules.specs.declared.Verdict.{Verdict}
-use Rattle.rules.specs.declared.Verdict.TheVariants.{Taken, Refused}
 use Rattle.rules.specs.Parts.{state_module, core_module}
-use Rattle.rules.specs.Numbers.{first_broken}
+use Rattle.rules.specs.Numbers.{number, number_of, first_broken, Verdict}
 use Rattle.rules.specs.Rules.{every_rules, place_rules, minimum_rules, mode_rules, bus_rules, command_rules, rules, ask}
 use Rattle.rules.specs.Fits.{bank_fits, core_fits, fits, number_max}
 use Rattle.rules.specs.Admitted.{Admitted}
@@ -61,26 +61,26 @@ known_bench grade h = go (eqb grade 1) refl h
 -- ── By what is found ──
 
 -- "the refused record changes neither state nor page"
-abbrev pub refused : ℕ → ℕ → ℕ → State → List ℕ → Stepped
-refused number interval reported s page = stepped (answer_of number interval reported Quiet) s page
+abbrev pub refused : Refusal → ℕ → State → List ℕ → Stepped
+refused w reported s page = stepped (answer_of (Err w) reported Quiet) s page
 
 -- "a taken record 0 and its own number"
 abbrev pub taken : Setup → State → Record → List ℕ → Stepped
-taken u s r page = stepped (answer_of 0 0 s.core.number (own_beat s r)) (next u s r) (page_next s r page)
+taken u s r page = stepped (answer_of (Ok tt) s.core.number (own_beat s r)) (next u s r) (page_next s r page)
 
 -- a run of one record
-pub take_taken : (u : Setup) (s : State) (r : Record) (page : List ℕ) → ask u s r ≡ Taken
+pub take_taken : (u : Setup) (s : State) (r : Record) (page : List ℕ) → ask u s r ≡ Ok tt
     → take_record u s r page ≡ took (own_beat s r) (next u s r) (page_next s r page)
 unfolding run all_taken page_after
 take_taken u s r page p = ap (left_by u s (r ∷ []) page) (run_taken u s r [] p)
 
-pub take_refused : (u : Setup) (s : State) (r : Record) (page : List ℕ) (n i : ℕ) → ask u s r ≡ Refused n i
+pub take_refused : (u : Setup) (s : State) (r : Record) (page : List ℕ) (w : Refusal) → ask u s r ≡ Err w
     → take_record u s r page ≡ took Quiet s page
 unfolding all_taken page_after
-take_refused u s r page n i p = ap (left_by u s (r ∷ []) page) (run_refused u s r [] n i p)
+take_refused u s r page w p = ap (left_by u s (r ∷ []) page) (run_refused u s r [] w p)
 
 module _ (u : Setup) (s : State) (bytes page : List ℕ) where
-  module _ (p : first_broken (entry_rules u s bytes page) ≡ Taken) where
+  module _ (p : first_broken (entry_rules u s bytes page) ≡ Ok tt) where
     pub asked_entered : ask_call u s bytes page ≡ found_of (ask u s (record_for s bytes)) s.core.number
     unfolding ask_call
     asked_entered = rw (p, ask_call)
@@ -89,19 +89,19 @@ module _ (u : Setup) (s : State) (bytes page : List ℕ) where
     unfolding take_call
     took_entered = rw (p, take_call)
 
-    pub step_takes : ask u s (record_for s bytes) ≡ Taken → step u s bytes page ≡ taken u s (record_for s bytes) page
+    pub step_takes : ask u s (record_for s bytes) ≡ Ok tt → step u s bytes page ≡ taken u s (record_for s bytes) page
     unfolding step
     step_takes q =
         λ i. both ((asked_entered ∙ ap (λ v. found_of v s.core.number) q) i) ((took_entered ∙ take_taken u s (record_for s bytes) page q) i)
 
-    pub step_refuses : (n i : ℕ) → ask u s (record_for s bytes) ≡ Refused n i → step u s bytes page ≡ refused n i s.core.number s page
+    pub step_refuses : (w : Refusal) → ask u s (record_for s bytes) ≡ Err w → step u s bytes page ≡ refused w s.core.number s page
     unfolding step
-    step_refuses n i q =
-        λ k. both ((asked_entered ∙ ap (λ v. found_of v s.core.number) q) k) ((took_entered ∙ take_refused u s (record_for s bytes) page n i q) k)
+    step_refuses w q =
+        λ k. both ((asked_entered ∙ ap (λ v. found_of v s.core.number) q) k) ((took_entered ∙ take_refused u s (record_for s bytes) page w q) k)
 
   -- 1, 3, 4, 6, 7 AND 25 LEAVE ALL AND REPORT RECORD 0
-  module _ (n i : ℕ) (p : first_broken (entry_rules u s bytes page) ≡ Refused n i) where
-    pub asked_out : ask_call u s bytes page ≡ found_of (Refused n i) 0
+  module _ (w : Refusal) (p : first_broken (entry_rules u s bytes page) ≡ Err w) where
+    pub asked_out : ask_call u s bytes page ≡ found_of (Err w) 0
     unfolding ask_call
     asked_out = rw (p, ask_call)
 
@@ -109,7 +109,7 @@ module _ (u : Setup) (s : State) (bytes page : List ℕ) where
     unfolding take_call
     took_out = rw (p, take_call)
 
-    pub entry_refused : step u s bytes page ≡ refused n i 0 s page
+    pub entry_refused : step u s bytes page ≡ refused w 0 s page
     unfolding step
     entry_refused = λ k. both (asked_out k) (took_out k)
 
@@ -118,51 +118,51 @@ module _ (u : Setup) (s : State) (bytes page : List ℕ) where
 pub as_before : (u : Setup) (s : State) (bytes page : List ℕ)
     → step u s bytes page
     ≡ elim (first_broken (entry_rules u s bytes page)) [
-      | Taken ↦
+      | Ok x ↦
           elim (ask u s (record_for s bytes)) [
-            | Taken ↦ taken u s (record_for s bytes) page
-            | Refused n i ↦ refused n i s.core.number s page
+            | Ok x ↦ taken u s (record_for s bytes) page
+            | Err w ↦ refused w s.core.number s page
           ]
-      | Refused n i ↦ refused n i 0 s page
+      | Err w ↦ refused w 0 s page
     ]
 as_before u s bytes page = enter (first_broken (entry_rules u s bytes page)) refl
   where
     Old : Verdict → Stepped
     Old v =
         elim v [
-          | Taken ↦
+          | Ok x ↦
               elim (ask u s (record_for s bytes)) [
-                | Taken ↦ taken u s (record_for s bytes) page
-                | Refused n i ↦ refused n i s.core.number s page
+                | Ok x ↦ taken u s (record_for s bytes) page
+                | Err w ↦ refused w s.core.number s page
               ]
-          | Refused n i ↦ refused n i 0 s page
+          | Err w ↦ refused w 0 s page
         ]
 
     Asked : Verdict → Stepped
-    Asked v = elim v [ Taken ↦ taken u s (record_for s bytes) page | Refused n i ↦ refused n i s.core.number s page ]
+    Asked v = elim v [ Ok x ↦ taken u s (record_for s bytes) page | Err w ↦ refused w s.core.number s page ]
 
     enter : (v : Verdict) → first_broken (entry_rules u s bytes page) ≡ v → step u s bytes page ≡ Old (first_broken (entry_rules u s bytes page))
-    enter (Refused n i) p = entry_refused u s bytes page n i p ∙ sym (ap Old p)
-    enter Taken p = look (ask u s (record_for s bytes)) refl ∙ sym (ap Old p)
+    enter (Err w) p = entry_refused u s bytes page w p ∙ sym (ap Old p)
+    enter (Ok o) p = look (ask u s (record_for s bytes)) refl ∙ sym (ap Old p)
       where
         look : (v : Verdict) → ask u s (record_for s bytes) ≡ v → step u s bytes page ≡ Asked (ask u s (record_for s bytes))
-        look Taken q = step_takes u s bytes page p q ∙ sym (ap Asked q)
-        look (Refused n i) q = step_refuses u s bytes page p n i q ∙ sym (ap Asked q)
+        look (Ok o) q = step_takes u s bytes page p q ∙ sym (ap Asked q)
+        look (Err w) q = step_refuses u s bytes page p w q ∙ sym (ap Asked q)
 
 -- what holds of a call, shown by what it finds
 pub by_step : (P : Stepped → Type 0) (u : Setup) (s : State) (bytes page : List ℕ)
-    → (first_broken (entry_rules u s bytes page) ≡ Taken → ask u s (record_for s bytes) ≡ Taken → P (taken u s (record_for s bytes) page))
-    → ((n i k : ℕ) → P (refused n i k s page))
+    → (first_broken (entry_rules u s bytes page) ≡ Ok tt → ask u s (record_for s bytes) ≡ Ok tt → P (taken u s (record_for s bytes) page))
+    → ((w : Refusal) (k : ℕ) → P (refused w k s page))
     → P (step u s bytes page)
 by_step P u s bytes page f g = enter (first_broken (entry_rules u s bytes page)) refl
   where
     enter : (v : Verdict) → first_broken (entry_rules u s bytes page) ≡ v → P (step u s bytes page)
-    enter (Refused n i) p = rw (entry_refused u s bytes page n i p) (g n i 0)
-    enter Taken p = look (ask u s (record_for s bytes)) refl
+    enter (Err w) p = rw (entry_refused u s bytes page w p) (g w 0)
+    enter (Ok o) p = look (ask u s (record_for s bytes)) refl
       where
         look : (v : Verdict) → ask u s (record_for s bytes) ≡ v → P (step u s bytes page)
-        look Taken q = rw (step_takes u s bytes page p q) (f p q)
-        look (Refused n i) q = rw (step_refuses u s bytes page p n i q) (g n i s.core.number)
+        look (Ok o) q = rw (step_takes u s bytes page p q) (f p q)
+        look (Err w) q = rw (step_refuses u s bytes page p w q) (g w s.core.number)
 
 -- A CALL THAT DOES NOT TAKE ITS RECORD LEAVES STATE AND PAGE AS THEY WERE
 pub record Untouched (s : State) (before : List ℕ) (x : Stepped) : Type 0 where
@@ -170,12 +170,12 @@ pub record Untouched (s : State) (before : List ℕ) (x : Stepped) : Type 0 wher
   pub page : x.page ≡ before
   pub beat : x.answer.beat ≡ Quiet
 
-pub refused_leaves : (u : Setup) (s : State) (bytes page : List ℕ) → ((step u s bytes page).answer.number ≡ 0 → ⊥)
+pub refused_leaves : (u : Setup) (s : State) (bytes page : List ℕ) → (number_of (step u s bytes page).answer.verdict ≡ 0 → ⊥)
     → Untouched s page (step u s bytes page)
 refused_leaves u s bytes page =
-    by_step (λ x. (x.answer.number ≡ 0 → ⊥) → Untouched s page x) u s bytes page
+    by_step (λ x. (number_of x.answer.verdict ≡ 0 → ⊥) → Untouched s page x) u s bytes page
     (λ p q h. absurd (h refl))
-    (λ n i k h. record { state = refl; page = refl; beat = refl })
+    (λ w k h. record { state = refl; page = refl; beat = refl })
 
 -- ── Number 0 is given exactly where the record is taken ──
 
@@ -192,27 +192,26 @@ rules_numbers u s r =
     numbers_asked not_zero (executable (command r)) (command_rules_of u s r) refl
 
 pub record Entering (u : Setup) (s : State) (bytes page : List ℕ) : Type 0 where
-  pub entered : first_broken (entry_rules u s bytes page) ≡ Taken
-  pub asked : ask u s (record_for s bytes) ≡ Taken
+  pub entered : first_broken (entry_rules u s bytes page) ≡ Ok tt
+  pub asked : ask u s (record_for s bytes) ≡ Ok tt
 
-pub taken_at_zero : (u : Setup) (s : State) (bytes page : List ℕ) → (step u s bytes page).answer.number ≡ 0 → Entering u s bytes page
+pub taken_at_zero : (u : Setup) (s : State) (bytes page : List ℕ) → number_of (step u s bytes page).answer.verdict ≡ 0 → Entering u s bytes page
 unfolding ask
 taken_at_zero u s bytes page z = enter (first_broken (entry_rules u s bytes page)) refl
   where
     enter : (v : Verdict) → first_broken (entry_rules u s bytes page) ≡ v → Entering u s bytes page
-    enter (Refused n i) p =
-        let h : n ≡ 0 = subst (λ (x : Stepped). x.answer.number ≡ 0) (entry_refused u s bytes page n i p) z in
-        let q : ◌≡◌ {A = Verdict} (Refused n i) Taken = zero_taken (entry_rules u s bytes page) (Refused n i) (entry_numbers u s bytes page) p h in
+    enter (Err w) p =
+        let h : number w ≡ 0 = subst (λ (x : Stepped). number_of x.answer.verdict ≡ 0) (entry_refused u s bytes page w p) z in
+        let q : ◌≡◌ {A = Verdict} (Err w) (Ok tt) = zero_taken (entry_rules u s bytes page) (Err w) (entry_numbers u s bytes page) p h in
         let e : ◌≡◌ {A = ℕ} 0 1 = cc in
         absurd (omega arith)
-    enter Taken p = look (ask u s (record_for s bytes)) refl
+    enter (Ok o) p = look (ask u s (record_for s bytes)) refl
       where
         look : (v : Verdict) → ask u s (record_for s bytes) ≡ v → Entering u s bytes page
-        look Taken q = record { entered = p; asked = q }
-        look (Refused n i) q =
-            let w = step_refuses u s bytes page p n i q in
-            let h : n ≡ 0 = subst (λ (x : Stepped). x.answer.number ≡ 0) w z in
-            let k : ◌≡◌ {A = Verdict} (Refused n i) Taken = zero_taken (rules_of u s (record_for s bytes)) (Refused n i) (rules_numbers u s (record_for s bytes)) q h in
+        look (Ok o) q = record { entered = p; asked = q }
+        look (Err w) q =
+            let h : number w ≡ 0 = subst (λ (x : Stepped). number_of x.answer.verdict ≡ 0) (step_refuses u s bytes page p w q) z in
+            let k : ◌≡◌ {A = Verdict} (Err w) (Ok tt) = zero_taken (rules_of u s (record_for s bytes)) (Err w) (rules_numbers u s (record_for s bytes)) q h in
             let e : ◌≡◌ {A = ℕ} 0 1 = cc in
             absurd (omega arith)
 
@@ -245,7 +244,7 @@ module _ {t u : SpeedTable} (e : NowhereHarder t u) (fit : table_fits u ≡ true
   -- what the easier table leaves, by the open row
   abbrev easier_left : Core → Record → List Bank → ℕ → Stepped
   easier_left c r ds row =
-      stepped (answer_of 0 0 c.number (beat c r row)) (state_of (core_after c r row) (banks_after u c r (beat c r row) ds))
+      stepped (answer_of (Ok tt) c.number (beat c r row)) (state_of (core_after c r row) (banks_after u c r (beat c r row) ds))
       (stored (core_module c) c.bank c.row r.dq (beat c r row) page)
 
   taken_agree : (c : Core) (r : Record) {bs ds : List Bank} → NearBanks bs ds → Agree (taken (setup t) (state_of c bs) r page) (taken (setup u) (state_of c ds) r page)
@@ -255,7 +254,7 @@ module _ {t u : SpeedTable} (e : NowhereHarder t u) (fit : table_fits u ≡ true
       (record { answer = refl; page = refl; next = near (near_after e c r (own_beat (state_of c bs) r) h) })
 
   -- a record that the harder table takes from a state is taken by the easier one from each state near to it
-  pub demand_3_step : {s s' : State} → NearStates s s' → (step (setup t) s bytes page).answer.number ≡ 0
+  pub demand_3_step : {s s' : State} → NearStates s s' → number_of (step (setup t) s bytes page).answer.verdict ≡ 0
       → Agree (step (setup t) s bytes page) (step (setup u) s' bytes page)
   demand_3_step (near {c = c} {bs = bs} {ds = ds} h) z =
       let went = taken_at_zero (setup t) (state_of c bs) bytes page z in
@@ -272,7 +271,7 @@ module _ {t u : SpeedTable} (e : NowhereHarder t u) (fit : table_fits u ≡ true
 pub period_most : (p : Ps) → period_fits p ≡ true → p.0 ≤ 65_535
 period_most p h = leb-true _ _ (both_true (leb 1_000 p.0) (leb p.0 65_535) h).1
 
-entered_of : (u : Setup) (s : State) (bytes page : List ℕ) → first_broken (entry_rules u s bytes page) ≡ Taken → s.core.number < number_max
+entered_of : (u : Setup) (s : State) (bytes page : List ℕ) → first_broken (entry_rules u s bytes page) ≡ Ok tt → s.core.number < number_max
     → Entered u s.core (record_for s bytes)
 unfolding entry_rules state_rules
 entered_of u s bytes page p h =
@@ -286,13 +285,13 @@ entered_of u s bytes page p h =
       number = h;
     }
 
-admitted_of : (u : Setup) (s : State) (bytes page : List ℕ) → first_broken (entry_rules u s bytes page) ≡ Taken → Admitted s
+admitted_of : (u : Setup) (s : State) (bytes page : List ℕ) → first_broken (entry_rules u s bytes page) ≡ Ok tt → Admitted s
 unfolding entry_rules state_rules
 admitted_of u s bytes page p = admitted s (kept 25 0 (entry_rules u s bytes page) p)
 
 -- THE STATE BESIDE A TAKEN RECORD NEVER GETS 25, while its record number is below 2^41
 pub taken_fits : (u : Setup) (s : State) (bytes page : List ℕ) → s.core.number < number_max
-    → (step u s bytes page).answer.number ≡ 0 → fits (step u s bytes page).next ≡ true
+    → number_of (step u s bytes page).answer.verdict ≡ 0 → fits (step u s bytes page).next ≡ true
 taken_fits u s bytes page h z =
     let e = taken_at_zero u s bytes page z in
     rw (step_taken u s bytes page e)

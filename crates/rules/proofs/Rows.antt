@@ -1,4 +1,5 @@
 -- A record that was taken kept each row of the verdict table, by number (01, Verdicts). Assumes nothing.
+use Rattle.std.specs.Prelude.{Ok}
 use Prim.Native.Nat.{ℕ, ◌≤◌}
 use mathlib.Core.Path.{◌≡◌, refl}
 use mathlib.Core.Bool.{Bool, true, false, ◌&&◌, ◌||◌}
@@ -24,7 +25,6 @@ use Rattle.mode.specs.Word.{legal}
 use Rattle.bursts.specs.Bus.{bursts_finished, bus_clear}
 use Rattle.rules.specs.declared.State.{State}
 use Rattle.rules.specs.declared.Setup.{Setup}
-use Rattle.rules.specs.declared.Verdict.TheVariants.{Taken}
 use Rattle.rules.specs.Numbers.{Rule, asked, ◌⇒◌}
 use Rattle.rules.specs.Parts.{clock_of, now, word, state_module}
 use Rattle.rules.specs.StartUp.{allowed, counted_refresh}
@@ -64,7 +64,7 @@ of_all f p q Precharge h = h
 of_all f p q Refresh h = h
 of_all f p q LoadMode h = h
 
-module _ (u : Setup) (s : State) (r : Record) (p : ask u s r ≡ Taken) where
+module _ (u : Setup) (s : State) (r : Record) (p : ask u s r ≡ Ok tt) where
   -- ── Every record ──
 
   -- 10

@@ -1,4 +1,7 @@
 -- Laws of a run: by its first record's answer, what it reports, and that what it took is a clean trace of its own. Assumes nothing.
+use Rattle.rules.specs.declared.Refusal.{Refusal}
+use Rattle.rules.specs.Numbers.{Verdict}
+use Rattle.std.specs.Prelude.{Ok, Err}
 use Prim.Native.Nat.{ℕ, ◌+◌}
 use native.Mathlib.Omega.{arith}
 use mathlib.Core.Path.{◌≡◌, refl, ap, ◌∙◌}
@@ -8,34 +11,32 @@ use Rattle.layout.specs.declared.Record.{Record}
 use Rattle.bursts.specs.declared.Beat.{Beat}
 use Rattle.rules.specs.declared.State.{State}
 use Rattle.rules.specs.declared.Setup.{Setup}
-use Rattle.rules.specs.declared.Verdict.{Verdict}
-use Rattle.rules.specs.declared.Verdict.TheVariants.{Taken, Refused}
 use Rattle.rules.specs.Rules.{ask}
 use Rattle.page.specs.Store.{stored}
 use Rattle.rules.specs.Parts.{state_module}
 use Rattle.rules.specs.After.{core_from, core_after, own_beat, next}
 use Rattle.rules.specs.Run.{Run, line, with_line, run, page_after, page_left, all_taken, state_left, last_beat}
 
-pub run_taken : (u : Setup) (s : State) (r : Record) (rs : List Record) → ask u s r ≡ Taken
+pub run_taken : (u : Setup) (s : State) (r : Record) (rs : List Record) → ask u s r ≡ Ok tt
     → run u s (r ∷ rs) ≡ with_line (line s r) (run u (next u s r) rs)
 unfolding run
 run_taken u s r rs p = rw (p, run)
 
-pub run_refused : (u : Setup) (s : State) (r : Record) (rs : List Record) (n i : ℕ) → ask u s r ≡ Refused n i
-    → run u s (r ∷ rs) ≡ record { verdict = Refused n i; reported = s.core.number; lines = [] }
+pub run_refused : (u : Setup) (s : State) (r : Record) (rs : List Record) (w : Refusal) → ask u s r ≡ Err w
+    → run u s (r ∷ rs) ≡ record { verdict = Err w; reported = s.core.number; lines = [] }
 unfolding run
-run_refused u s r rs n i p = rw (p, run)
+run_refused u s r rs w p = rw (p, run)
 
 -- what holds of a run, shown by whether its first record is taken
 pub by_answer : (P : Run → Type 0) (u : Setup) (s : State) (r : Record) (rs : List Record)
-    → (ask u s r ≡ Taken → P (with_line (line s r) (run u (next u s r) rs)))
-    → ((n i : ℕ) → ask u s r ≡ Refused n i → P (record { verdict = Refused n i; reported = s.core.number; lines = [] }))
+    → (ask u s r ≡ Ok tt → P (with_line (line s r) (run u (next u s r) rs)))
+    → ((w : Refusal) → ask u s r ≡ Err w → P (record { verdict = Err w; reported = s.core.number; lines = [] }))
     → P (run u s (r ∷ rs))
 by_answer P u s r rs f g = go (ask u s r) refl
   where
     go : (a : Verdict) → ask u s r ≡ a → P (run u s (r ∷ rs))
-    go Taken p = rw (run_taken u s r rs p) (f p)
-    go (Refused n i) p = rw (run_refused u s r rs n i p) (g n i p)
+    go (Ok o) p = rw (run_taken u s r rs p) (f p)
+    go (Err w) p = rw (run_refused u s r rs w p) (g w p)
 
 pub next_number : (u : Setup) (s : State) (r : Record) → (next u s r).core.number ≡ s.core.number + 1
 unfolding next core_after core_from
@@ -48,17 +49,17 @@ reports u s [] = omega arith
 reports u s (r ∷ rs) =
     by_answer (λ a. a.reported ≡ s.core.number + length a.lines) u s r rs
     (λ p. omega (arith, reports u (next u s r) rs, next_number u s r))
-    (λ n i p. omega arith)
+    (λ w p. omega arith)
 
 -- the records that a run took, alone, are clean, with the same lines
 pub before_stop : (u : Setup) (s : State) (rs : List Record)
-    → run u s (take (length (run u s rs).lines) rs) ≡ record { verdict = Taken; reported = (run u s rs).reported; lines = (run u s rs).lines }
+    → run u s (take (length (run u s rs).lines) rs) ≡ record { verdict = Ok tt; reported = (run u s rs).reported; lines = (run u s rs).lines }
 unfolding run
 before_stop u s [] = refl
 before_stop u s (r ∷ rs) =
-    by_answer (λ a. run u s (take (length a.lines) (r ∷ rs)) ≡ record { verdict = Taken; reported = a.reported; lines = a.lines }) u s r rs
+    by_answer (λ a. run u s (take (length a.lines) (r ∷ rs)) ≡ record { verdict = Ok tt; reported = a.reported; lines = a.lines }) u s r rs
     (λ p. run_taken u s r (take (length (run u (next u s r) rs).lines) rs) p ∙ ap (with_line (line s r)) (before_stop u (next u s r) rs))
-    (λ n i p. refl)
+    (λ w p. refl)
 
 -- ── What a run leaves, by its first record's answer ──
 

@@ -1,4 +1,5 @@
 -- A state that a taken record leaves is admitted again, and clocks only grow. Assumes nothing.
+use Rattle.std.specs.Prelude.{Some, Option, None, Ok}
 use Prim.Native.Nat.{ℕ, zero, suc, ◌+◌, ◌*◌, ◌%◌, ◌^◌, ◌≤◌, ◌<◌}
 use native.Mathlib.Nat.{le_refl, le_trans, mul-le-mul}
 use native.Mathlib.Omega.{arith}
@@ -9,7 +10,6 @@ use lib.Dec.{ltb, eqb}
 use lib.ListN.{get_or}
 use Rattle.units.specs.declared.Clock.{Clock}
 use Rattle.units.specs.declared.Ps.{Ps}
-use Rattle.units.specs.declared.Event.TheVariants.{On}
 use Rattle.units.specs.declared.Module.{Module}
 use Rattle.units.specs.Module.{bench_columns, rows, module_of}
 use Rattle.units.proofs.Both.{both}
@@ -32,18 +32,16 @@ use Rattle.bursts.specs.declared.Bus.{Bus}
 use Rattle.bursts.specs.Burst.{no_burst, burst_at, before_cut, cut_on, cut_if, ends}
 use Rattle.bursts.specs.Bus.{no_reads, cut_each, written_over, gives_way_first, with_room, reads_from, bus_after, stores_in}
 use Rattle.rules.specs.declared.Refreshes.{Refreshes}
-use Rattle.rules.specs.declared.Refreshes.TheVariants.{None, One, Two}
+use Rattle.rules.specs.declared.Refreshes.TheVariants.{Zero, One, Two}
 use Rattle.rules.specs.declared.Register.{Register}
-use Rattle.rules.specs.declared.Register.TheVariants.{Unloaded, Loaded}
 use Rattle.rules.specs.declared.Status.{Status}
 use Rattle.rules.specs.declared.Status.TheVariants.{NotStarted, Open, Closed}
 use Rattle.rules.specs.declared.Bank.{Bank}
 use Rattle.rules.specs.declared.Core.{Core}
 use Rattle.rules.specs.declared.State.{State}
 use Rattle.rules.specs.declared.Setup.{Setup}
-use Rattle.rules.specs.declared.Verdict.TheVariants.{Taken}
 use Rattle.rules.specs.Numbers.{◌⇒◌}
-use Rattle.rules.specs.Parts.{clock_of, now, word_in, word, start, no_bank, state_module, core_module}
+use Rattle.rules.specs.Parts.{clock_of, now, word_in, word, start, no_bank, state_module, core_module, loaded}
 use Rattle.rules.specs.StartUp.{begun, last_refresh}
 use Rattle.rules.specs.Banks.{bank_at, row_of}
 use Rattle.rules.specs.Closing.{burst_end}
@@ -81,19 +79,19 @@ row_on m NotStarted h = some_row m
 row_on m (Open row n) h = h
 row_on m (Closed t) h = some_row m
 
-word_on : (m : Module) (x : Register) → RegisterOn m x → legal m (word_in x) ≡ true
-word_on m Unloaded h = refl
-word_on m (Loaded w n) h = h
+word_on : (m : Module) (x : Option Register) → RegisterOn m x → legal m (word_in x) ≡ true
+word_on m None h = refl
+word_on m (Some l) h = h
 
 refreshes_fit : (x : Bool) (n : Clock) (f : Refreshes) → n.0 ≤ clock_max → FitEvent (last_refresh f)
     → FitEvent (last_refresh (cond x (one_more n f) f))
-refreshes_fit true n None h g = h
+refreshes_fit true n Zero h g = h
 refreshes_fit true n (One y) h g = h
 refreshes_fit true n (Two y) h g = h
 refreshes_fit false n f h g = g
 
-register_on_after : (m : Module) (x : Bool) (w : ℕ) (z : Bool) (n : Clock) (f : Register) → (x ⇒ legal m w && z) ≡ true → RegisterOn m f
-    → RegisterOn m (cond x (Loaded w n) f)
+register_on_after : (m : Module) (x : Bool) (w : ℕ) (z : Bool) (n : Clock) (f : Option Register) → (x ⇒ legal m w && z) ≡ true → RegisterOn m f
+    → RegisterOn m (cond x (loaded w n) f)
 register_on_after m true w z n f g k = (both (legal m w) z g).0
 register_on_after m false w z n f g k = k
 
@@ -121,7 +119,7 @@ cut_fits : (n : Clock) → n.0 ≤ clock_max → (x : Bool) (b : Burst) → FitB
 cut_fits n h x b f =
     record {
       start = f.start;
-      cut = cond_keeps FitEvent (x && b.live) (cut_on b.start n b.cut) b.cut (cond_keeps FitEvent (ltb b.start.0 n.0 && before_cut b.start n b.cut) (On n) b.cut h f.cut) f.cut;
+      cut = cond_keeps FitEvent (x && b.live) (cut_on b.start n b.cut) b.cut (cond_keeps FitEvent (ltb b.start.0 n.0 && before_cut b.start n b.cut) (Some n) b.cut h f.cut) f.cut;
     }
 
 cut_stays_on : (m : Module) (n : Clock) (x : Bool) (b : Burst) → BurstOn m b → BurstOn m (cut_if x n b)
@@ -178,7 +176,7 @@ pub record Entered (u : Setup) (c : Core) (r : Record) : Type 0 where
   pub place : OnModule (core_module c) r
   pub number : c.number < number_max
 
-module _ (u : Setup) (s : State) (r : Record) (g : Entered u s.core r) (a : Admitted s) (p : ask u s r ≡ Taken) where
+module _ (u : Setup) (s : State) (r : Record) (g : Entered u s.core r) (a : Admitted s) (p : ask u s r ≡ Ok tt) where
   n_fits : (clock_of s.core r).0 ≤ clock_max
   n_fits = clock_kept u s r p
 
@@ -206,9 +204,9 @@ module _ (u : Setup) (s : State) (r : Record) (g : Entered u s.core r) (a : Admi
       let u = s.core.startup in
       let f = a.core.startup in
       record {
-        allclosed = cond_keeps FitEvent (precharge_all (command r) r) (On n_at) u.allclosed n_fits f.allclosed;
+        allclosed = cond_keeps FitEvent (precharge_all (command r) r) (Some n_at) u.allclosed n_fits f.allclosed;
         refreshed = refreshes_fit (is (command r) Refresh) n_at u.refreshes n_fits f.refreshed;
-        register = cond_keeps FitRegister (is (command r) LoadMode) (Loaded r.addr n_at) u.register n_fits f.register;
+        register = cond_keeps FitRegister (is (command r) LoadMode) (loaded r.addr n_at) u.register n_fits f.register;
       }
 
   -- what a cut keeps, and holds of no burst and of the record's own, holds of each burst of the bus that the record leaves
@@ -299,7 +297,7 @@ module _ (u : Setup) (s : State) (r : Record) (g : Entered u s.core r) (a : Admi
       (cond_keeps (BankOn m_at) (is k Precharge && covers r.addr r.ba i) _ _ (precharged_on (begun s.core.startup) _ b.status) h))
 
   marked_fits : (x : Bool) (b : Bank) → FitBank b → FitBank (marked x n_at b)
-  marked_fits x b h = record { status = h.status; active = h.active; stored = cond_keeps FitEvent x (On n_at) b.stored n_fits h.stored }
+  marked_fits x b h = record { status = h.status; active = h.active; stored = cond_keeps FitEvent x (Some n_at) b.stored n_fits h.stored }
 
   -- what a command and a mark keep holds of each bank that the record leaves
   banks_keep : (P : Bank → Type 0) → ((i : ℕ) (b : Bank) → P b → P (after (command r) i b))

@@ -1,4 +1,6 @@
 -- Tests side by side: where the first passes, so does the second. Rules side by side. Assumes nothing.
+use Rattle.std.specs.Prelude.{Ok}
+use Rattle.rules.specs.declared.Refusal.{Refusal}
 use Prim.Native.Nat.{ℕ, ◌≤◌}
 use native.Mathlib.Nat.{le_trans}
 use native.Mathlib.Omega.{arith}
@@ -6,7 +8,6 @@ use mathlib.Core.Path.{◌≡◌, sym, subst}
 use mathlib.Core.Bool.{Bool, true, false, ◌&&◌, ◌||◌}
 use mathlib.Core.List.{List, [], ◌∷◌, ◌++◌}
 use lib.Dec.{T, leb, leb→le, le→leb}
-use Rattle.rules.specs.declared.Verdict.TheVariants.{Taken}
 use Rattle.rules.specs.Numbers.{Rule, rule, first_broken, asked, ◌⇒◌}
 
 infix 15 ◌⊑◌
@@ -40,7 +41,7 @@ pub ⊑_and : {a b x y : Bool} → a ⊑ b → x ⊑ y → (a && x) ⊑ (b && y)
 infixr 10 ◌▸◌
 pub data Softer : List Rule → List Rule → Type 0 where
   end : Softer [] []
-  ◌▸◌ : {n i : ℕ} {a b : Bool} {l m : List Rule} → a ⊑ b → Softer l m → Softer (rule n i a ∷ l) (rule n i b ∷ m)
+  ◌▸◌ : {w : Refusal} {a b : Bool} {l m : List Rule} → a ⊑ b → Softer l m → Softer (rule w a ∷ l) (rule w b ∷ m)
 
 infixr 9 ◌⧺◌
 pub ◌⧺◌ : {l m x y : List Rule} → Softer l m → Softer x y → Softer (l ++ x) (m ++ y)
@@ -51,7 +52,7 @@ pub softer_asked : (x : Bool) {l m : List Rule} → Softer l m → Softer (asked
 softer_asked true h = h
 softer_asked false h = end
 
-pub softer_taken : {l m : List Rule} → Softer l m → first_broken l ≡ Taken → first_broken m ≡ Taken
+pub softer_taken : {l m : List Rule} → Softer l m → first_broken l ≡ Ok tt → first_broken m ≡ Ok tt
 softer_taken end p = p
 softer_taken (◌▸◌ {a = true} {b = true} h q) p = softer_taken q p
 softer_taken (◌▸◌ {a = true} {b = false} h q) p = absurd (h.so tt)

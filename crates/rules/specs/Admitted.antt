@@ -1,15 +1,13 @@
 -- An admitted state: what a state that number 25 passes holds, as facts. Clocks, times and the record number apart from places: the
 -- arithmetic of the rules relies on the first alone, and only the second looks at the module. Definitions only.
-use Rattle.std.specs.Prelude.{◌≤◌, ◌<◌, ◌≡◌, true, List, [], ◌∷◌}
-use Rattle.units.specs.declared.Event.{Event}
-use Rattle.units.specs.declared.Event.TheVariants.{Never, On}
+use Rattle.units.specs.declared.Clock.{Clock}
+use Rattle.std.specs.Prelude.{◌≤◌, ◌<◌, ◌≡◌, true, List, [], ◌∷◌, Option, None, Some}
 use Rattle.units.specs.declared.Module.{Module}
 use Rattle.units.specs.Module.{banks, rows, columns}
 use Rattle.mode.specs.Word.{legal}
 use Rattle.bursts.specs.declared.Burst.{Burst}
 use Rattle.bursts.specs.declared.Bus.{Bus}
 use Rattle.rules.specs.declared.Register.{Register}
-use Rattle.rules.specs.declared.Register.TheVariants.{Unloaded, Loaded}
 use Rattle.rules.specs.declared.StartUp.{StartUp}
 use Rattle.rules.specs.declared.Status.{Status}
 use Rattle.rules.specs.declared.Status.TheVariants.{NotStarted, Open, Closed}
@@ -33,9 +31,9 @@ pub record EachBurst (P : Burst → Type 0) (u : Bus) : Type 0 where
 
 -- ── "a clock above 2^40, a record number above 2^41, a time above 2^58 ps" ──
 
-abbrev pub FitEvent : Event → Type 0
-FitEvent Never = Unit {0}
-FitEvent (On x) = x.0 ≤ clock_max
+abbrev pub FitEvent : Option Clock → Type 0
+FitEvent None = Unit {0}
+FitEvent (Some x) = x.0 ≤ clock_max
 
 abbrev pub FitStatus : Status → Type 0
 FitStatus NotStarted = Unit {0}
@@ -51,9 +49,9 @@ pub record FitBurst (b : Burst) : Type 0 where
   pub start : b.start.0 ≤ clock_max
   pub cut : FitEvent b.cut
 
-abbrev pub FitRegister : Register → Type 0
-FitRegister Unloaded = Unit {0}
-FitRegister (Loaded word n) = n.0 ≤ clock_max
+abbrev pub FitRegister : Option Register → Type 0
+FitRegister None = Unit {0}
+FitRegister (Some l) = l.clock.0 ≤ clock_max
 
 pub record FitStartUp (u : StartUp) : Type 0 where
   pub allclosed : FitEvent u.allclosed
@@ -82,9 +80,9 @@ pub record BurstOn (m : Module) (b : Burst) : Type 0 where
   pub column : b.column < columns m
   pub word : legal m b.word ≡ true
 
-abbrev pub RegisterOn : Module → Register → Type 0
-RegisterOn m Unloaded = Unit {0}
-RegisterOn m (Loaded word n) = legal m word ≡ true
+abbrev pub RegisterOn : Module → Option Register → Type 0
+RegisterOn m None = Unit {0}
+RegisterOn m (Some l) = legal m l.word ≡ true
 
 pub record CoreOn (m : Module) (c : Core) : Type 0 where
   pub bank : c.bank < banks

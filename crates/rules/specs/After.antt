@@ -1,8 +1,7 @@
 -- What a taken record leaves: the next state (01, Commands, Auto precharge, Beats). Definitions only.
-use Rattle.std.specs.Prelude.{ℕ, suc, ◌+◌, Bool, ◌&&◌, cond, List, [], ◌∷◌, eqb}
+use Rattle.std.specs.Prelude.{ℕ, suc, ◌+◌, Bool, ◌&&◌, cond, List, [], ◌∷◌, eqb, None, Some}
 use Rattle.units.specs.declared.Clock.{Clock}
 use Rattle.units.specs.declared.Ps.{Ps}
-use Rattle.units.specs.declared.Event.TheVariants.{Never, On}
 use Rattle.speed.specs.declared.SpeedTable.{SpeedTable}
 use Rattle.layout.specs.declared.Record.{Record}
 use Rattle.layout.specs.declared.Command.{Command}
@@ -12,8 +11,7 @@ use Rattle.bursts.specs.declared.Bus.{Bus}
 use Rattle.bursts.specs.declared.Beat.{Beat}
 use Rattle.bursts.specs.Bus.{write_after, reads_after, bus_after, beat_on, stores_in}
 use Rattle.rules.specs.declared.Refreshes.{Refreshes}
-use Rattle.rules.specs.declared.Refreshes.TheVariants.{None, One, Two}
-use Rattle.rules.specs.declared.Register.TheVariants.{Loaded}
+use Rattle.rules.specs.declared.Refreshes.TheVariants.{Zero, One, Two}
 use Rattle.rules.specs.declared.StartUp.{StartUp}
 use Rattle.rules.specs.declared.Status.{Status}
 use Rattle.rules.specs.declared.Status.TheVariants.{NotStarted, Open, Closed}
@@ -21,7 +19,7 @@ use Rattle.rules.specs.declared.Bank.{Bank}
 use Rattle.rules.specs.declared.Core.{Core}
 use Rattle.rules.specs.declared.State.{State}
 use Rattle.rules.specs.declared.Setup.{Setup}
-use Rattle.rules.specs.Parts.{clock_of, now, word}
+use Rattle.rules.specs.Parts.{clock_of, now, word, loaded}
 use Rattle.rules.specs.StartUp.{begun}
 use Rattle.rules.specs.Banks.{bank_at, row_of}
 use Rattle.rules.specs.Closing.{burst_end, closing_time}
@@ -31,16 +29,16 @@ use Rattle.rules.specs.Rules.{asks_auto}
 
 -- one refresh more, on clock n
 abbrev pub one_more : Clock → Refreshes → Refreshes
-one_more n None = One n
+one_more n Zero = One n
 one_more n (One x) = Two n
 one_more n (Two x) = Two n
 
 unfoldable pub startup_after : Command → Record → Clock → StartUp → StartUp
 startup_after k r n u =
     record {
-      allclosed = cond (precharge_all k r) (On n) u.allclosed;
+      allclosed = cond (precharge_all k r) (Some n) u.allclosed;
       refreshes = cond (is k Refresh) (one_more n u.refreshes) u.refreshes;
-      register = cond (is k LoadMode) (Loaded r.addr n) u.register;
+      register = cond (is k LoadMode) (loaded r.addr n) u.register;
     }
 
 -- ── All but the banks; `row` is the open row of the record's bank ──
@@ -60,7 +58,7 @@ core_from c k r n bus =
       bank = c.bank;
       row = c.row;
       number = c.number + 1;
-      last = On n;
+      last = Some n;
       startup = startup_after k r n c.startup;
       bus = bus;
     }
@@ -89,7 +87,7 @@ auto_closed t period end (Closed x) = Closed x
 
 -- an ACTIVE of this row on clock n
 abbrev pub activated : ℕ → Clock → Bank
-activated row n = record { status = Open row n; active = On n; stored = Never }
+activated row n = record { status = Open row n; active = Some n; stored = None }
 
 -- bank i after command k on clock n, at time moment; its burst would end at `end`, and a PRECHARGE ALL has been where `again`
 unfoldable pub bank_after : Command → SpeedTable → Ps → Ps → Bool → Record → Clock → Ps → ℕ → Bank → Bank
@@ -100,7 +98,7 @@ bank_after k t period end again r n moment i b =
 
 -- a byte was stored in it on clock n, where x is true
 abbrev pub marked : Bool → Clock → Bank → Bank
-marked x n b = record { status = b.status; active = b.active; stored = cond x (On n) b.stored }
+marked x n b = record { status = b.status; active = b.active; stored = cond x (Some n) b.stored }
 
 -- f at each bank and its number, from i
 abbrev pub each_bank : (ℕ → Bank → Bank) → ℕ → List Bank → List Bank

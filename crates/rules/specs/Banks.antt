@@ -1,9 +1,7 @@
 -- What a bank's record says, and the bank that a command must find: numbers 13 and 15 (01, Commands and what each must find). Definitions only.
-use Rattle.std.specs.Prelude.{ℕ, Bool, true, false, ◌&&◌, ◌||◌, cond, List, [], ◌∷◌, ltb, get_or}
+use Rattle.std.specs.Prelude.{ℕ, Bool, true, false, ◌&&◌, ◌||◌, cond, List, [], ◌∷◌, ltb, get_or, Option, None, Some}
 use Rattle.units.specs.declared.Clock.{Clock}
 use Rattle.units.specs.declared.Ps.{Ps}
-use Rattle.units.specs.declared.Event.{Event}
-use Rattle.units.specs.declared.Event.TheVariants.{Never, On}
 use Rattle.units.specs.Time.{at, by, plus}
 use Rattle.layout.specs.declared.Command.{Command}
 use Rattle.layout.specs.declared.Command.TheVariants.{Active, Refresh, LoadMode}
@@ -48,12 +46,12 @@ closings (Open row n) = []
 closings (Closed t) = t ∷ []
 
 -- the clock on which an event stands, where that is after clock n
-abbrev pub clock_after : Clock → Event → List Clock
-clock_after n Never = []
-clock_after n (On x) = cond (ltb n.0 x.0) (x ∷ []) []
+abbrev pub clock_after : Clock → Option Clock → List Clock
+clock_after n None = []
+clock_after n (Some x) = cond (ltb n.0 x.0) (x ∷ []) []
 
 -- "the last clock on which a byte was stored in it after its ACTIVE", of an open bank
-abbrev pub last_store : Status → Event → List Clock
+abbrev pub last_store : Status → Option Clock → List Clock
 last_store NotStarted e = []
 last_store (Open row n) e = clock_after n e
 last_store (Closed t) e = []

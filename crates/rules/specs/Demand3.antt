@@ -1,11 +1,10 @@
 -- DEMAND 3 of the call of many records: "A table that is nowhere harder never stops earlier; beats and page agree up to the harder
 -- table's stop". The claim; it is proved in device/proofs/Demand3. Definitions only.
-use Rattle.std.specs.Prelude.{ℕ, ◌*◌, ◌≤◌, ◌≡◌, true, List, length, take}
+use Rattle.std.specs.Prelude.{ℕ, ◌*◌, ◌≤◌, ◌≡◌, true, List, length, take, Ok}
 use Rattle.speed.specs.declared.SpeedTable.{SpeedTable}
 use Rattle.speed.specs.Table.{table_fits}
 use Rattle.rules.specs.declared.State.{State}
 use Rattle.rules.specs.declared.Setup.{Setup}
-use Rattle.rules.specs.declared.Verdict.TheVariants.{Taken}
 use Rattle.rules.specs.Report.{call_run, records_call}
 use Rattle.rules.specs.Harder.{NowhereHarder}
 
@@ -26,7 +25,7 @@ pub record Demand3 (t u : Setup) (s : State) (bytes page beats : List ℕ) : Typ
   -- "and page"
   pub page_agrees : (records_call u s (up_to_stop t s bytes page) page beats).page ≡ (records_call t s bytes page beats).page
   -- what the harder table calls clean is clean, with the same beats and the same page
-  pub clean : (records_call t s bytes page beats).ran.verdict ≡ Taken → records_call u s bytes page beats ≡ records_call t s bytes page beats
+  pub clean : (records_call t s bytes page beats).ran.verdict ≡ Ok tt → records_call u s bytes page beats ≡ records_call t s bytes page beats
 
 -- the claim, of any two tables that number 6 passes
 abbrev pub Demand3Holds : Type 0

@@ -1,15 +1,12 @@
 -- What a state may hold: number 25 (01, Verdicts). Definitions only.
-use Rattle.std.specs.Prelude.{ℕ, ◌^◌, Bool, true, ◌&&◌, List, [], ◌∷◌, leb, ltb}
+use Rattle.std.specs.Prelude.{ℕ, ◌^◌, Bool, true, ◌&&◌, List, [], ◌∷◌, leb, ltb, Option, None, Some}
 use Rattle.units.specs.declared.Clock.{Clock}
-use Rattle.units.specs.declared.Event.{Event}
-use Rattle.units.specs.declared.Event.TheVariants.{Never, On}
 use Rattle.units.specs.declared.Module.{Module}
 use Rattle.units.specs.Module.{banks, rows, columns}
 use Rattle.mode.specs.Word.{legal}
 use Rattle.bursts.specs.declared.Burst.{Burst}
 use Rattle.bursts.specs.declared.Bus.{Bus}
 use Rattle.rules.specs.declared.Register.{Register}
-use Rattle.rules.specs.declared.Register.TheVariants.{Unloaded, Loaded}
 use Rattle.rules.specs.declared.StartUp.{StartUp}
 use Rattle.rules.specs.declared.Status.{Status}
 use Rattle.rules.specs.declared.Status.TheVariants.{NotStarted, Open, Closed}
@@ -33,9 +30,9 @@ closing_max = 2 ^ 58
 abbrev pub clock_fits : Clock → Bool
 clock_fits n = leb n.0 clock_max
 
-abbrev pub event_fits : Event → Bool
-event_fits Never = true
-event_fits (On x) = clock_fits x
+abbrev pub event_fits : Option Clock → Bool
+event_fits None = true
+event_fits (Some x) = clock_fits x
 
 abbrev pub status_fits : Module → Status → Bool
 status_fits m NotStarted = true
@@ -62,9 +59,9 @@ bursts_fit m (b ∷ bs) = burst_fits m b && bursts_fit m bs
 abbrev pub bus_fits : Module → Bus → Bool
 bus_fits m u = burst_fits m u.write && bursts_fit m u.reads
 
-abbrev pub register_fits : Module → Register → Bool
-register_fits m Unloaded = true
-register_fits m (Loaded word n) = legal m word && clock_fits n
+abbrev pub register_fits : Module → Option Register → Bool
+register_fits m None = true
+register_fits m (Some l) = legal m l.word && clock_fits l.clock
 
 abbrev pub startup_fits : Module → StartUp → Bool
 startup_fits m u = event_fits u.allclosed && event_fits (last_refresh u.refreshes) && register_fits m u.register

@@ -1,7 +1,7 @@
 -- What demand 3 speaks of: a table that is nowhere harder, and states that differ in closing times only. Definitions only.
-use Rattle.std.specs.Prelude.{◌≤◌, List, [], ◌∷◌}
+use Rattle.units.specs.declared.Clock.{Clock}
+use Rattle.std.specs.Prelude.{◌≤◌, List, [], ◌∷◌, Option}
 use Rattle.units.specs.declared.Ps.{Ps}
-use Rattle.units.specs.declared.Event.{Event}
 use Rattle.speed.specs.declared.SpeedTable.{SpeedTable}
 use Rattle.rules.specs.declared.Status.TheVariants.{Closed}
 use Rattle.rules.specs.declared.Bank.{Bank}
@@ -27,7 +27,7 @@ pub record NowhereHarder (t u : SpeedTable) : Type 0 where
 -- the same bank, or the same but closed earlier
 pub data Near : Bank → Bank → Type 0 where
   same : {b : Bank} → Near b b
-  earlier : {p q : Ps} {active stored : Event} → q.0 ≤ p.0
+  earlier : {p q : Ps} {active stored : Option Clock} → q.0 ≤ p.0
       → Near (record { status = Closed p; active = active; stored = stored }) (record { status = Closed q; active = active; stored = stored })
 
 -- bank for bank

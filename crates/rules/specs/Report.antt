@@ -1,17 +1,16 @@
 -- Beats as two words for each record in a lent slice of numbers, and a run of records with what it leaves. Definitions only.
-use Rattle.std.specs.Prelude.{ℕ, suc, ◌+◌, ◌-◌, ◌*◌, ◌/◌, ◌%◌, ◌^◌, cond, List, [], ◌∷◌, leb, eqb, length, set}
+use Rattle.std.specs.Prelude.{ℕ, suc, ◌+◌, ◌-◌, ◌*◌, ◌/◌, ◌%◌, ◌^◌, cond, List, [], ◌∷◌, leb, eqb, length, set, Ok, Err}
 use Rattle.layout.specs.declared.Record.{Record}
 use Rattle.layout.specs.Bytes.{records_of}
 use Rattle.bursts.specs.declared.Cells.{Cells}
 use Rattle.bursts.specs.declared.Beat.{Beat}
 use Rattle.bursts.specs.declared.Beat.TheVariants.{Quiet, Stores, Drives}
+use Rattle.rules.specs.declared.Refusal.TheVariants.{UnfitState, WrongLength}
 use Rattle.rules.specs.declared.State.{State}
 use Rattle.rules.specs.declared.Setup.{Setup}
-use Rattle.rules.specs.declared.Verdict.{Verdict}
-use Rattle.rules.specs.declared.Verdict.TheVariants.{Taken, Refused}
 use Rattle.rules.specs.declared.Ran.{Ran}
 use Rattle.rules.specs.Parts.{state_module}
-use Rattle.rules.specs.Numbers.{Rule, rule, first_broken}
+use Rattle.rules.specs.Numbers.{Rule, rule, first_broken, Verdict}
 use Rattle.rules.specs.Fits.{number_max}
 use Rattle.rules.specs.Run.{Line, Run, run, page_left, state_left}
 use Rattle.rules.specs.OneRecord.{state_rules}
@@ -54,7 +53,7 @@ fold u s rs page beats =
 
 -- what is tried before the first of the records: 1, where the bytes are no whole records; 3, 4, 6, 7 and 25
 unfoldable pub records_rules : Setup → State → ℕ → ℕ → List Rule
-records_rules u s bytes lent = rule 1 0 (eqb (bytes % 16) 0) ∷ state_rules u s lent
+records_rules u s bytes lent = rule WrongLength (eqb (bytes % 16) 0) ∷ state_rules u s lent
 
 -- how many records come before one whose number is above 2^41
 abbrev pub room : State → ℕ
@@ -62,7 +61,7 @@ room s = suc number_max - s.core.number
 
 -- where there are more and those before it were taken, that one gets 25 as from the one-record call: "report record 0"
 abbrev pub above_number_max : Ran → Ran
-above_number_max r = elim r.verdict [ Taken ↦ ran (Refused 25 0) 0 | Refused n i ↦ ran (Refused n i) r.reported ]
+above_number_max r = elim r.verdict [ Ok x ↦ ran (Err UnfitState) 0 | Err w ↦ ran (Err w) r.reported ]
 
 abbrev pub past_room : Left → Left
 past_room l = left (above_number_max l.ran) l.page l.beats
@@ -79,10 +78,10 @@ records_in s bytes = records_of (state_module s) (within_room s (length bytes / 
 unfoldable pub records_lent : Setup → State → List ℕ → ℕ → List ℕ → List ℕ → Left
 records_lent u s bytes lent page beats =
     elim (first_broken (records_rules u s (length bytes) lent)) [
-      | Taken ↦
+      | Ok x ↦
           cond (leb (length bytes / 16) (room s)) (fold u s (records_of (state_module s) (length bytes / 16) bytes) page beats)
           (past_room (fold u s (records_of (state_module s) (room s) bytes) page beats))
-      | Refused n i ↦ left (ran (Refused n i) 0) page beats
+      | Err w ↦ left (ran (Err w) 0) page beats
     ]
 
 abbrev pub records_call : Setup → State → List ℕ → List ℕ → List ℕ → Left
@@ -92,8 +91,8 @@ records_call u s bytes page beats = records_lent u s bytes (length page) page be
 unfoldable pub call_run : Setup → State → List ℕ → ℕ → Run
 call_run u s bytes lent =
     elim (first_broken (records_rules u s (length bytes) lent)) [
-      | Taken ↦ run u s (records_in s bytes)
-      | Refused n i ↦ record { verdict = Refused n i; reported = 0; lines = [] }
+      | Ok x ↦ run u s (records_in s bytes)
+      | Err w ↦ record { verdict = Err w; reported = 0; lines = [] }
     ]
 
 -- the state that the call leaves

@@ -1,9 +1,7 @@
 -- The verdict table for a record, rows 10 to 22 with 16 as eight rows (01, Verdicts). Definitions only.
-use Rattle.std.specs.Prelude.{ℕ, ◌^◌, Bool, true, ◌&&◌, ◌||◌, cond, List, [], ◌∷◌, ◌++◌, leb, eqb}
+use Rattle.std.specs.Prelude.{ℕ, ◌^◌, Bool, true, ◌&&◌, ◌||◌, cond, List, [], ◌∷◌, ◌++◌, leb, eqb, Option, None, Some}
 use Rattle.units.specs.declared.Clock.{Clock}
 use Rattle.units.specs.declared.Ps.{Ps}
-use Rattle.units.specs.declared.Event.{Event}
-use Rattle.units.specs.declared.Event.TheVariants.{Never, On}
 use Rattle.units.specs.Time.{at, by, plus}
 use Rattle.units.specs.declared.Module.{Module}
 use Rattle.speed.specs.declared.SpeedTable.{SpeedTable}
@@ -13,6 +11,8 @@ use Rattle.layout.specs.declared.Command.TheVariants.{Write, Terminate, LoadMode
 use Rattle.layout.specs.Commands.{command, is, access, executable, a10}
 use Rattle.mode.specs.Word.{legal, latency}
 use Rattle.bursts.specs.Bus.{bursts_finished, bus_clear}
+use Rattle.rules.specs.declared.Refusal.TheVariants.{BankState, BusNotClear, CkeLow, EndlessBurst, HighClock, LateClosing, LateRefresh, LongRow, RecordZeros, ReservedMode, ShortClock, StartUpStep, TooSoon, UnfinishedBurst}
+use Rattle.rules.specs.declared.Interval.TheVariants.{Mrd, Ras, Rc, Rcd, Rfc, Rp, Rrd, Wr}
 use Rattle.rules.specs.declared.Refreshes.{Refreshes}
 use Rattle.rules.specs.declared.StartUp.{StartUp}
 use Rattle.rules.specs.declared.Status.{Status}
@@ -20,8 +20,7 @@ use Rattle.rules.specs.declared.Bank.{Bank}
 use Rattle.rules.specs.declared.Core.{Core}
 use Rattle.rules.specs.declared.State.{State}
 use Rattle.rules.specs.declared.Setup.{Setup}
-use Rattle.rules.specs.declared.Verdict.{Verdict}
-use Rattle.rules.specs.Numbers.{Rule, rule, first_broken, asked, ◌⇒◌, tRCD, tRAS, tRC, tRP, tRRD, tRFC, tWR, tMRD}
+use Rattle.rules.specs.Numbers.{Rule, rule, first_broken, asked, ◌⇒◌, tRCD, tRAS, tRC, tRP, tRRD, tRFC, tWR, tMRD, Verdict}
 use Rattle.rules.specs.Parts.{clock_of, now, word_in, state_module}
 use Rattle.rules.specs.StartUp.{allowed, counted_refresh}
 use Rattle.rules.specs.Banks.{bank_at, every, open_within, banks_found}
@@ -33,9 +32,9 @@ abbrev pub clock_max : ℕ
 clock_max = 2 ^ 40
 
 -- a maximum m is not passed at time now: "no maximum is passed" where the event is ahead
-abbrev pub within : Ps → Ps → Ps → Event → Bool
-within period m now Never = true
-within period m now (On x) = by now (plus (at period x) m)
+abbrev pub within : Ps → Ps → Ps → Option Clock → Bool
+within period m now None = true
+within period m now (Some x) = by now (plus (at period x) m)
 
 -- "tCK of the chosen latency"
 abbrev pub tCK : SpeedTable → ℕ → Ps
@@ -48,45 +47,45 @@ asks_auto k r = access k && a10 r
 -- 10, 23, 11, 12 and 13 are tried on every record, here on clock n at time moment
 unfoldable pub every_rules : SpeedTable → Ps → Refreshes → List Bank → Record → Clock → Ps → List Rule
 every_rules t period refreshes bs r n moment =
-    rule 10 0 (eqb r.zeros 0)
-    ∷ rule 23 0 (leb n.0 clock_max)
-    ∷ rule 11 0 (eqb r.cke 1)
-    ∷ rule 12 0 (within period t.interval moment (counted_refresh refreshes))
-    ∷ rule 13 0 (every (λ b. open_within period t.trasmax moment b.status) bs)
+    rule RecordZeros (eqb r.zeros 0)
+    ∷ rule HighClock (leb n.0 clock_max)
+    ∷ rule CkeLow (eqb r.cke 1)
+    ∷ rule LateRefresh (within period t.interval moment (counted_refresh refreshes))
+    ∷ rule LongRow (every (λ b. open_within period t.trasmax moment b.status) bs)
     ∷ []
 
 -- 14 and 15
 unfoldable pub place_rules : Command → StartUp → List Bank → Record → Ps → List Rule
-place_rules k u bs r moment = rule 14 0 (allowed k r moment u) ∷ rule 15 0 (banks_found k r.ba bs) ∷ []
+place_rules k u bs r moment = rule StartUpStep (allowed k r moment u) ∷ rule BankState (banks_found k r.ba bs) ∷ []
 
 -- 16, the lowest minimum first, for the events that they count from
 unfoldable pub minimum_rules : SpeedTable → Ps → Ps → List Since → List Rule
 minimum_rules t period moment events =
-    rule 16 tRCD (met tRCD t.trcd moment events)
-    ∷ rule 16 tRAS (met tRAS t.trasmin moment events)
-    ∷ rule 16 tRC (met tRC t.trc moment events)
-    ∷ rule 16 tRP (met tRP t.trp moment events)
-    ∷ rule 16 tRRD (met tRRD t.trrd moment events)
-    ∷ rule 16 tRFC (met tRFC t.trfc moment events)
-    ∷ rule 16 tWR (met tWR t.twr moment events)
-    ∷ rule 16 tMRD (met tMRD (at period t.tmrd) moment events)
+    rule (TooSoon Rcd) (met tRCD t.trcd moment events)
+    ∷ rule (TooSoon Ras) (met tRAS t.trasmin moment events)
+    ∷ rule (TooSoon Rc) (met tRC t.trc moment events)
+    ∷ rule (TooSoon Rp) (met tRP t.trp moment events)
+    ∷ rule (TooSoon Rrd) (met tRRD t.trrd moment events)
+    ∷ rule (TooSoon Rfc) (met tRFC t.trfc moment events)
+    ∷ rule (TooSoon Wr) (met tWR t.twr moment events)
+    ∷ rule (TooSoon Mrd) (met tMRD (at period t.tmrd) moment events)
     ∷ []
 
 -- 17 and 18
 unfoldable pub mode_rules : Command → SpeedTable → Module → Ps → Record → List Rule
 mode_rules k t m period r =
-    rule 17 0 (is k LoadMode ⇒ legal m r.addr && eqb r.ba 0)
-    ∷ rule 18 0 (is k LoadMode ⇒ by (tCK t r.addr) period)
+    rule ReservedMode (is k LoadMode ⇒ legal m r.addr && eqb r.ba 0)
+    ∷ rule ShortClock (is k LoadMode ⇒ by (tCK t r.addr) period)
     ∷ []
 
 -- 19 to 22 on clock n. `word` is the mode loaded, `finished` says that no auto precharge burst is unfinished on this clock, `clear`
 -- that the data bus is clear for a WRITE, and `status` is that of the record's bank
 unfoldable pub bus_rules : Command → SpeedTable → Ps → ℕ → Bool → Bool → Status → Record → Clock → List Rule
 bus_rules k t period word finished clear status r n =
-    rule 19 0 (access k || is k Terminate ⇒ finished)
-    ∷ rule 20 0 (is k Write ⇒ clear)
-    ∷ rule 21 0 (asks_auto k r ⇒ ends_by_itself k word)
-    ∷ rule 22 0 (asks_auto k r ⇒ closes_within t period (burst_end k t period word n) status)
+    rule UnfinishedBurst (access k || is k Terminate ⇒ finished)
+    ∷ rule BusNotClear (is k Write ⇒ clear)
+    ∷ rule EndlessBurst (asks_auto k r ⇒ ends_by_itself k word)
+    ∷ rule LateClosing (asks_auto k r ⇒ closes_within t period (burst_end k t period word n) status)
     ∷ []
 
 -- what the rows read of the earlier records. `ask` takes it from the state; the crate `lookback` finds it by looking back

@@ -1,5 +1,6 @@
 -- Record after record up to the first refused one: verdict, reported beats, stores (01, Verdicts and Beats). Definitions only.
-use Rattle.std.specs.Prelude.{ℕ, List, [], ◌∷◌, length, take}
+use Rattle.rules.specs.Numbers.{Verdict}
+use Rattle.std.specs.Prelude.{ℕ, List, [], ◌∷◌, length, take, Ok, Err}
 use Rattle.units.specs.declared.Clock.{Clock}
 use Rattle.units.specs.declared.Module.{Module}
 use Rattle.layout.specs.declared.Record.{Record}
@@ -8,8 +9,6 @@ use Rattle.bursts.specs.declared.Beat.TheVariants.{Quiet}
 use Rattle.page.specs.Store.{stored}
 use Rattle.rules.specs.declared.State.{State}
 use Rattle.rules.specs.declared.Setup.{Setup}
-use Rattle.rules.specs.declared.Verdict.{Verdict}
-use Rattle.rules.specs.declared.Verdict.TheVariants.{Taken, Refused}
 use Rattle.rules.specs.Parts.{clock_of, state_module}
 use Rattle.rules.specs.Rules.{ask}
 use Rattle.rules.specs.After.{own_beat, next}
@@ -34,11 +33,11 @@ with_line l u = record { verdict = u.verdict; reported = u.reported; lines = l �
 -- ask, then take or leave: "the page holds the stores of the records before it, .. and nothing after it is read"; at the end "number 0
 -- and its record count"
 unfoldable pub run : Setup → State → List Record → Run
-run u s [] = record { verdict = Taken; reported = s.core.number; lines = [] }
+run u s [] = record { verdict = Ok tt; reported = s.core.number; lines = [] }
 run u s (r ∷ rs) =
     elim (ask u s r) [
-      | Taken ↦ with_line (line s r) (run u (next u s r) rs)
-      | Refused n i ↦ record { verdict = Refused n i; reported = s.core.number; lines = [] }
+      | Ok x ↦ with_line (line s r) (run u (next u s r) rs)
+      | Err w ↦ record { verdict = Err w; reported = s.core.number; lines = [] }
     ]
 
 -- the page of bank `bank`, row `row`, after these lines: each record's data beside its beat

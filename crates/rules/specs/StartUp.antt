@@ -1,17 +1,15 @@
 -- What is allowed at each step of start-up: number 14 (01, Start-up). Definitions only.
-use Rattle.std.specs.Prelude.{Bool, true, false, ◌&&◌, ◌||◌, cond}
+use Rattle.units.specs.declared.Clock.{Clock}
+use Rattle.std.specs.Prelude.{Bool, true, false, ◌&&◌, ◌||◌, cond, Option, None, Some}
 use Rattle.units.specs.declared.Ps.{Ps}
-use Rattle.units.specs.declared.Event.{Event}
-use Rattle.units.specs.declared.Event.TheVariants.{Never, On}
 use Rattle.units.specs.Time.{time, by, occurred}
 use Rattle.layout.specs.declared.Record.{Record}
 use Rattle.layout.specs.declared.Command.{Command}
 use Rattle.layout.specs.declared.Command.TheVariants.{Precharge, Refresh, LoadMode}
 use Rattle.layout.specs.Commands.{is, precharge_all}
 use Rattle.rules.specs.declared.Refreshes.{Refreshes}
-use Rattle.rules.specs.declared.Refreshes.TheVariants.{None, One, Two}
+use Rattle.rules.specs.declared.Refreshes.TheVariants.{Zero, One, Two}
 use Rattle.rules.specs.declared.Register.{Register}
-use Rattle.rules.specs.declared.Register.TheVariants.{Unloaded, Loaded}
 use Rattle.rules.specs.declared.StartUp.{StartUp}
 
 -- the first PRECHARGE ALL has been
@@ -20,26 +18,26 @@ begun u = occurred u.allclosed
 
 -- two or more refreshes are done
 abbrev pub two_done : Refreshes → Bool
-two_done None = false
+two_done Zero = false
 two_done (One n) = false
 two_done (Two n) = true
 
 -- the last refresh
-abbrev pub last_refresh : Refreshes → Event
-last_refresh None = Never
-last_refresh (One n) = On n
-last_refresh (Two n) = On n
+abbrev pub last_refresh : Refreshes → Option Clock
+last_refresh Zero = None
+last_refresh (One n) = Some n
+last_refresh (Two n) = Some n
 
 -- the last refresh where two or more are done: what number 12 counts from
-abbrev pub counted_refresh : Refreshes → Event
-counted_refresh None = Never
-counted_refresh (One n) = Never
-counted_refresh (Two n) = On n
+abbrev pub counted_refresh : Refreshes → Option Clock
+counted_refresh Zero = None
+counted_refresh (One n) = None
+counted_refresh (Two n) = Some n
 
 -- the last LOAD MODE
-abbrev pub last_load : Register → Event
-last_load Unloaded = Never
-last_load (Loaded word n) = On n
+abbrev pub last_load : Option Register → Option Clock
+last_load None = None
+last_load (Some l) = Some l.clock
 
 -- "that command must stand at 100,000,000 ps or later"
 abbrev pub power_up : Ps

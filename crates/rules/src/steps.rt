@@ -4,74 +4,62 @@ ghost use Rattle.rules.specs.StartUp.{begun, two_done, last_refresh, counted_ref
 ghost use Rattle.rules.specs.Parts.{word_in};
 ghost use Rattle.units.specs.Time.{occurred};
 
-use crate::{Refreshes, Register, StartUp};
-use units::Event;
+use crate::{Refreshes, StartUp};
+use units::Clock;
 
-// The first PRECHARGE ALL has been.
-pub fn begun(u: StartUp) -> bool
-    ensures { result ≡ begun u }
-{
-    let all = u.allclosed;
-    all.occurred()
-}
+impl Refreshes {
+    pub fn two_done(self) -> bool
+        ensures { result ≡ two_done self }
+    {
+        matches!(self, Refreshes::Two(_))
+    }
 
-pub fn two_done(f: Refreshes) -> bool
-    ensures { result ≡ two_done f }
-{
-    match f {
-        Refreshes::None => false,
-        Refreshes::One(_) => false,
-        Refreshes::Two(_) => true,
+    // The last one.
+    pub fn last(self) -> Option<Clock>
+        ensures { result ≡ last_refresh self }
+    {
+        match self {
+            Refreshes::Zero => None,
+            Refreshes::One(n) | Refreshes::Two(n) => Some(n),
+        }
+    }
+
+    // What number 12 counts from: "two or more refreshes done".
+    pub fn counted(self) -> Option<Clock>
+        ensures { result ≡ counted_refresh self }
+    {
+        match self {
+            Refreshes::Zero | Refreshes::One(_) => None,
+            Refreshes::Two(n) => Some(n),
+        }
     }
 }
 
-pub fn last_refresh(f: Refreshes) -> Event
-    ensures { result ≡ last_refresh f }
-{
-    match f {
-        Refreshes::None => Event::Never,
-        Refreshes::One(n) => Event::On(n),
-        Refreshes::Two(n) => Event::On(n),
+impl StartUp {
+    // The first PRECHARGE ALL has been.
+    pub fn begun(self) -> bool
+        ensures { result ≡ begun self }
+    {
+        self.allclosed.is_some()
     }
-}
 
-// What number 12 counts from: "two or more refreshes done".
-pub fn counted_refresh(f: Refreshes) -> Event
-    ensures { result ≡ counted_refresh f }
-{
-    match f {
-        Refreshes::None => Event::Never,
-        Refreshes::One(_) => Event::Never,
-        Refreshes::Two(n) => Event::On(n),
+    pub fn last_load(self) -> Option<Clock>
+        ensures { result ≡ last_load self.register }
+    {
+        self.register.map(|r| r.clock)
     }
-}
 
-pub fn last_load(x: Register) -> Event
-    ensures { result ≡ last_load x }
-{
-    match x {
-        Register::Unloaded => Event::Never,
-        Register::Loaded { word: _, clock } => Event::On(clock),
+    // The mode word; before the first LOAD MODE no record that reads it is taken.
+    pub fn word(self) -> u16
+        ensures { result ≡ word_in self.register }
+    {
+        self.register.map_or(0x30, |r| r.word)
     }
-}
 
-// The mode word; before the first LOAD MODE no record that reads it is taken.
-pub fn word_in(x: Register) -> u16
-    ensures { result ≡ word_in x }
-{
-    match x {
-        Register::Unloaded => 0x30,
-        Register::Loaded { word, clock: _ } => word,
+    // Two refreshes are done and a mode is loaded: everything is allowed.
+    pub fn started(self) -> bool
+        ensures { result ≡ (two_done self.refreshes && occurred (last_load self.register)) }
+    {
+        self.refreshes.two_done() && self.register.is_some()
     }
-}
-
-// Two refreshes are done and a mode is loaded: everything is allowed.
-pub fn started(u: StartUp) -> bool
-    ensures { result ≡ (two_done u.refreshes && occurred (last_load u.register)) }
-{
-    let f = u.refreshes;
-    let x = u.register;
-    let load = last_load(x);
-    let two = two_done(f);
-    two & load.occurred()
 }

@@ -64,7 +64,7 @@ impl SpeedTable {
         }
     }
 
-    // The column -13E of 003's table.
+    // The column -13E of 003's table. Two columns are two functions: document 01 names this form, and each number stands beside its field.
     pub fn grade_13e() -> SpeedTable
         ensures { result ≡ grade_13E }
     {

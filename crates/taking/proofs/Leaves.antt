@@ -1,6 +1,8 @@
--- What a command leaves of the four banks, and that most commands leave them as they were. Assumes nothing.
+-- Most commands leave the four banks as they were. Assumes nothing.
 use Prim.Native.Nat.{ℕ}
-use mathlib.Core.Path.{◌≡◌, refl, ap}
+use Rattle.std.specs.Prelude.{None, Some}
+use native.Mathlib.Omega.{arith}
+use mathlib.Core.Path.{◌≡◌, refl, ap, sym}
 use mathlib.Core.Bool.{Bool, true, false, ◌&&◌, ◌||◌, cond}
 use mathlib.Core.List.{List, [], ◌∷◌}
 use lib.Dec.{eqb}
@@ -12,6 +14,8 @@ use Rattle.layout.specs.declared.Record.{Record}
 use Rattle.layout.specs.declared.Command.{Command}
 use Rattle.layout.specs.declared.Command.TheVariants.{Active, Precharge}
 use Rattle.layout.specs.Commands.{is, covers}
+use Rattle.bursts.specs.declared.Beat.{Beat}
+use Rattle.taking.specs.Marks.{stores_byte, bank_of}
 use Rattle.rules.specs.declared.Bank.{Bank}
 use Rattle.rules.specs.Banks.{bank_at}
 use Rattle.rules.specs.Rules.{asks_auto}
@@ -27,16 +31,6 @@ each_same f i [] h = refl
 each_same f i (b ∷ l) h = rw (h i b, each_same f (ℕ.suc i) l h)
 
 module _ (k : Command) (t : SpeedTable) (period end : Ps) (again : Bool) (r : Record) (n : Clock) (moment : Ps) where
-  pub commanded_four : (l : List Bank) → length l ≡ 4
-      → commanded k t period end again r n moment l
-      ≡ (bank_after k t period end again r n moment 0 (bank_at l 0)
-      ∷ bank_after k t period end again r n moment 1 (bank_at l 1)
-      ∷ bank_after k t period end again r n moment 2 (bank_at l 2)
-      ∷ bank_after k t period end again r n moment 3 (bank_at l 3)
-      ∷ [])
-  unfolding commanded
-  commanded_four l h = each_four (bank_after k t period end again r n moment) l h
-
   pub untouched : (is k Active || (asks_auto k r || is k Precharge)) ≡ false → (l : List Bank) → commanded k t period end again r n moment l ≡ l
   unfolding commanded bank_after
   untouched h l = each_same (bank_after k t period end again r n moment) 0 l (λ i b. go (is k Active) (asks_auto k r) (is k Precharge) h i b)
@@ -50,3 +44,19 @@ module _ (k : Command) (t : SpeedTable) (period end : Ps) (again : Bool) (r : Re
       go true y z h i b = cc
       go false true z h i b = cc
       go false false true h i b = cc
+
+-- ── A stored byte ──
+
+pub stored_some : (w : Beat) (i : ℕ) → cond (stores_byte w) (Some (bank_of w)) None ≡ Some i → (stores_byte w ≡ true) × (i ≡ bank_of w)
+stored_some w i = go (stores_byte w)
+  where
+    go : (x : Bool) → cond x (Some (bank_of w)) None ≡ Some i → (x ≡ true) × (i ≡ bank_of w)
+    go true h = let e : bank_of w ≡ i = cc in (refl, sym e)
+    go false h = let z : ◌≡◌ {A = ℕ} 0 1 = cc in absurd (omega arith)
+
+pub stored_none : (w : Beat) → cond (stores_byte w) (Some (bank_of w)) None ≡ None → stores_byte w ≡ false
+stored_none w = go (stores_byte w)
+  where
+    go : (x : Bool) → cond x (Some (bank_of w)) None ≡ None → x ≡ false
+    go true h = let z : ◌≡◌ {A = ℕ} 0 1 = cc in absurd (omega arith)
+    go false h = refl

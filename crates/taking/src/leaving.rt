@@ -2,9 +2,6 @@
 ghost use Rattle.std.specs.Prelude.{◌≡◌, cond, ◌||◌, ◌≤◌, ◌<◌};
 ghost use Rattle.layout.specs.declared.Command.TheVariants.{Active, Precharge};
 ghost use Rattle.layout.specs.Commands.{is};
-ghost use Rattle.units.specs.declared.Event.TheVariants as Event;
-ghost use Rattle.speed.specs.Bounds.{Bounds};
-ghost use Rattle.units.specs.Reach.{FitPeriod};
 ghost use Rattle.rules.specs.Calls.{BanksFit};
 ghost use Rattle.rules.specs.Admitted.{FitBank, FitStatus};
 ghost use Rattle.rules.specs.Rules.{asks_auto};
@@ -16,75 +13,48 @@ ghost use Rattle.rules.specs.Closing.{burst_end};
 ghost use Rattle.rules.specs.Rules.{clock_max};
 ghost use Rattle.bursts.specs.Bus.{bus_after};
 ghost use Rattle.taking.specs.Marks.{stores_byte, bank_of};
-ghost use Rattle.rules.specs.After.{one_more, startup_after, with_status, precharged, auto_closed, activated, bank_after, commanded};
+ghost use Rattle.rules.specs.After.{one_more, startup_after, precharged, auto_closed, activated, bank_after, commanded};
 
 use bursts::{Beat, Bus};
 use bus::databus;
 use layout::{Command, Record};
-use rules::{Bank, Refreshes, Register, StartUp, Status, banks, closing, steps};
-use speed::SpeedTable;
-use units::{BANKS, Clock, Event, Ps, time};
+use rules::timing::Timing;
+use rules::{Bank, Refreshes, Register, StartUp, Status, closing};
+use units::{BANKS, Clock, Ps, time};
 
-fn event_if(x: bool, n: Clock, old: Event) -> Event
-    ensures { result ≡ cond x (Event.On n) old }
-{
-    if x { Event::On(n) } else { old }
-}
-
+// One refresh more, on clock n.
 fn one_more(n: Clock, f: Refreshes) -> Refreshes
     ensures { result ≡ one_more n f }
 {
     match f {
-        Refreshes::None => Refreshes::One(n),
+        Refreshes::Zero => Refreshes::One(n),
         Refreshes::One(_) => Refreshes::Two(n),
         Refreshes::Two(_) => Refreshes::Two(n),
     }
 }
 
-// One refresh more, where x.
-fn refreshes_if(x: bool, n: Clock, f: Refreshes) -> Refreshes
-    ensures { result ≡ cond x (one_more n f) f }
-{
-    if x { one_more(n, f) } else { f }
-}
-
-fn register_if(x: bool, word: u16, n: Clock, old: Register) -> Register
-    ensures { result ≡ cond x (Register.Loaded word n) old }
-{
-    if x {
-        Register::Loaded { word, clock: n }
-    } else {
-        old
-    }
-}
-
+// A PRECHARGE ALL, an AUTO REFRESH and a LOAD MODE each leave their mark.
 #[tactic(auto, unfolding(rules::specs::After::startup_after))]
 pub fn startup_after(k: Command, r: Record, n: Clock, u: StartUp) -> StartUp
     ensures { result ≡ startup_after k r n u }
 {
-    let every = layout::a10(r.addr);
-    let all = u.allclosed;
-    let old = u.refreshes;
-    let loaded = u.register;
-    let allclosed = event_if(layout::is(k, Command::Precharge) & every, n, all);
-    let refreshes = refreshes_if(layout::is(k, Command::Refresh), n, old);
-    let register = register_if(layout::is(k, Command::LoadMode), r.addr, n, loaded);
-    StartUp {
-        allclosed,
-        refreshes,
-        register,
-    }
-}
-
-fn with_status(x: Status, b: Bank) -> Bank
-    ensures { result ≡ with_status x b }
-{
-    let active = b.active;
-    let stored = b.stored;
-    Bank {
-        status: x,
-        active,
-        stored,
+    match k {
+        Command::Precharge if layout::a10(r.addr) => StartUp {
+            allclosed: Some(n),
+            ..u
+        },
+        Command::Refresh => StartUp {
+            refreshes: one_more(n, u.refreshes),
+            ..u
+        },
+        Command::LoadMode => StartUp {
+            register: Some(Register {
+                word: r.addr,
+                clock: n,
+            }),
+            ..u
+        },
+        _ => u,
     }
 }
 
@@ -93,43 +63,31 @@ fn precharged(again: bool, moment: Ps, x: Status) -> Status
     ensures { result ≡ precharged again moment x }
 {
     match x {
-        Status::NotStarted => Status::Closed { closing: moment },
-        Status::Open { row: _, active: _ } => Status::Closed { closing: moment },
-        Status::Closed { closing } => {
-            if again {
-                Status::Closed { closing }
-            } else {
-                Status::Closed { closing: moment }
-            }
-        }
+        Status::Closed { .. } if again => x,
+        _ => Status::Closed { closing: moment },
     }
 }
 
 // "Auto precharge counts the bank closed at once."
-fn auto_closed(t: SpeedTable, period: Ps, end: Ps, x: Status) -> Status
-    requires { Bounds t × FitPeriod period × FitStatus x }
-    ensures { result ≡ auto_closed t period end x }
+fn auto_closed(timing: Timing, end: Ps, x: Status) -> Status
+    requires { FitStatus x }
+    ensures { result ≡ auto_closed timing.table timing.period end x }
 {
     match x {
-        Status::NotStarted => x,
-        Status::Open { row: _, active } => {
-            let closing = closing::closing_time(t, period, active, end);
-            Status::Closed { closing }
-        }
-        Status::Closed { closing: _ } => x,
+        Status::Open { active, .. } => Status::Closed {
+            closing: closing::closing_time(timing, active, end),
+        },
+        Status::NotStarted | Status::Closed { .. } => x,
     }
 }
 
 pub fn activated(row: u16, n: Clock) -> Bank
     ensures { result ≡ activated row n }
 {
-    let status = Status::Open { row, active: n };
-    let active = Event::On(n);
-    let stored = Event::Never;
     Bank {
-        status,
-        active,
-        stored,
+        status: Status::Open { row, active: n },
+        active: Some(n),
+        stored: None,
     }
 }
 
@@ -137,8 +95,7 @@ pub fn activated(row: u16, n: Clock) -> Bank
 #[tactic(auto, unfolding(rules::specs::After::bank_after))]
 fn bank_after(
     k: Command,
-    t: SpeedTable,
-    period: Ps,
+    timing: Timing,
     end: Ps,
     again: bool,
     r: Record,
@@ -147,37 +104,36 @@ fn bank_after(
     i: u8,
     b: Bank,
 ) -> Bank
-    requires { Bounds t × FitPeriod period × FitBank b }
-    ensures { result ≡ bank_after k t period end again r n moment i b }
+    requires { FitBank b }
+    ensures { result ≡ bank_after k timing.table timing.period end again r n moment i b }
 {
     let own = i == r.ba;
-    if layout::is(k, Command::Active) & own {
-        return activated(r.addr, n);
+    match k {
+        Command::Active if own => activated(r.addr, n),
+        Command::Precharge if layout::covers(r.addr, r.ba, i) => Bank {
+            status: precharged(again, moment, b.status),
+            ..b
+        },
+        _ if closing::asks_auto(k, r) && own => Bank {
+            status: auto_closed(timing, end, b.status),
+            ..b
+        },
+        _ => b,
     }
-    let status = b.status;
-    if closing::asks_auto(k, r) & own {
-        return with_status(auto_closed(t, period, end, status), b);
-    }
-    let covered = layout::covers(r.addr, r.ba, i);
-    if layout::is(k, Command::Precharge) & covered {
-        return with_status(precharged(again, moment, status), b);
-    }
-    b
 }
 
 // Only ACTIVE, PRECHARGE, and a READ or WRITE with auto precharge touch a bank.
 fn touches(k: Command, r: Record) -> bool
     ensures { result ≡ (is k Active || (asks_auto k r || is k Precharge)) }
 {
-    layout::is(k, Command::Active) | (closing::asks_auto(k, r) | layout::is(k, Command::Precharge))
+    matches!(k, Command::Active | Command::Precharge) || closing::asks_auto(k, r)
 }
 
 // The banks after the command.
-#[tactic(auto, unfolding(rules::specs::After::commanded))]
+#[tactic(auto, using(crate::proofs::Leaves::untouched), unfolding(rules::specs::After::commanded))]
 fn commanded(
     k: Command,
-    t: SpeedTable,
-    period: Ps,
+    timing: Timing,
     end: Ps,
     again: bool,
     r: Record,
@@ -185,89 +141,70 @@ fn commanded(
     moment: Ps,
     all: [Bank; 4],
 ) -> [Bank; 4]
-    requires { Bounds t × FitPeriod period × BanksFit all }
-    ensures { result ≡ commanded k t period end again r n moment all }
+    requires { BanksFit all }
+    ensures { result ≡ commanded k timing.table timing.period end again r n moment all }
 {
-    if touches(k, r) {
-        let a = bank_after(k, t, period, end, again, r, n, moment, 0, all[0]);
-        let b = bank_after(k, t, period, end, again, r, n, moment, 1, all[1]);
-        let c = bank_after(k, t, period, end, again, r, n, moment, 2, all[2]);
-        let d = bank_after(k, t, period, end, again, r, n, moment, 3, all[3]);
-        return [a, b, c, d];
+    if !touches(k, r) {
+        return all;
     }
-    all
+    let [a, b, c, d] = all;
+    [
+        bank_after(k, timing, end, again, r, n, moment, 0, a),
+        bank_after(k, timing, end, again, r, n, moment, 1, b),
+        bank_after(k, timing, end, again, r, n, moment, 2, c),
+        bank_after(k, timing, end, again, r, n, moment, 3, d),
+    ]
 }
 
 // The bus after the command, with the mode word and the open row that it finds.
 pub fn bus_moved(k: Command, r: Record, n: Clock, startup: StartUp, own: Bank, bus: Bus) -> Bus
     ensures { result ≡ bus_after k r n (word_in startup.register) (row_of own.status) bus }
 {
-    let register = startup.register;
-    let status = own.status;
-    let word = steps::word_in(register);
-    let row = banks::row_of(status);
-    databus::bus_after(k, r, n, word, row, bus)
+    databus::bus_after(k, r, n, startup.word(), own.status.row(), bus)
 }
 
 // The status of the record's own bank after a READ or WRITE with auto precharge.
-pub fn self_closed(
-    k: Command,
-    t: SpeedTable,
-    period: Ps,
-    startup: StartUp,
-    n: Clock,
-    x: Status,
-) -> Status
-    requires { Bounds t × FitPeriod period × FitStatus x × (n.0 ≤ clock_max) }
-    ensures { result ≡ auto_closed t period (burst_end k t period (word_in startup.register) n) x }
+pub fn self_closed(k: Command, timing: Timing, startup: StartUp, n: Clock, x: Status) -> Status
+    requires { FitStatus x × (n.0 ≤ clock_max) }
+    ensures { result ≡ auto_closed timing.table timing.period (burst_end k timing.table timing.period (word_in startup.register) n) x }
 {
-    let register = startup.register;
-    let word = steps::word_in(register);
-    let end = closing::burst_end(k, t, period, word, n);
-    auto_closed(t, period, end, x)
+    let end = closing::burst_end(k, timing, startup.word(), n);
+    auto_closed(timing, end, x)
 }
 
 // The four banks after the command.
 pub fn banks_moved(
     k: Command,
-    t: SpeedTable,
-    period: Ps,
+    timing: Timing,
     startup: StartUp,
     r: Record,
     n: Clock,
     all: [Bank; 4],
 ) -> [Bank; 4]
-    requires { Bounds t × FitPeriod period × BanksFit all × (n.0 ≤ clock_max) }
-    ensures { result ≡ commanded k t period (burst_end k t period (word_in startup.register) n) (begun startup) r n (at period n) all }
+    requires { BanksFit all × (n.0 ≤ clock_max) }
+    ensures { result ≡ commanded k timing.table timing.period
+        (burst_end k timing.table timing.period (word_in startup.register) n) (begun startup) r n (at timing.period n) all }
 {
-    let register = startup.register;
-    let word = steps::word_in(register);
-    let moment = time::at(period, n);
-    let end = closing::burst_end(k, t, period, word, n);
-    let again = steps::begun(startup);
-    commanded(k, t, period, end, again, r, n, moment, all)
+    let end = closing::burst_end(k, timing, startup.word(), n);
+    commanded(
+        k,
+        timing,
+        end,
+        startup.begun(),
+        r,
+        n,
+        time::at(timing.period, n),
+        all,
+    )
 }
 
-// The beat stores a byte in a bank of the module.
-#[tactic(auto, unfolding(crate::specs::Marks::stores_byte))]
-pub fn stores(w: Beat) -> bool
-    ensures { result ≡ stores_byte w }
+// The bank of the module in which the beat stores a byte.
+#[tactic(auto, unfolding(crate::specs::Marks::stores_byte, crate::specs::Marks::bank_of))]
+pub fn stored_in(w: Beat) -> Option<u8>
+    ensures { result ≡ cond (stores_byte w) (Some (bank_of w)) None }
 {
     match w {
-        Beat::Quiet => false,
-        Beat::Stores(c) => (c.lanes != 0) & (c.bank < BANKS),
-        Beat::Drives(_) => false,
-    }
-}
-
-// The bank of a WRITE's beat.
-#[tactic(auto, unfolding(crate::specs::Marks::bank_of))]
-pub fn bank_of(w: Beat) -> u8
-    ensures { result ≡ bank_of w }
-{
-    match w {
-        Beat::Quiet => 0,
-        Beat::Stores(c) => c.bank,
-        Beat::Drives(_) => 0,
+        Beat::Stores(c) if c.lanes != 0 && c.bank < BANKS => Some(c.bank),
+        _ => None,
     }
 }

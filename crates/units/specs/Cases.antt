@@ -1,9 +1,8 @@
 -- The two modules by their data sheets, and the grades of each; clocks, times and events. Assumes nothing.
-use Rattle.std.specs.Prelude.{ℕ, ◌*◌, ◌^◌, ◌≡◌, refl, Bool, true, false, not, List, [], ◌∷◌, eqb, T}
+use Rattle.std.specs.Prelude.{ℕ, ◌*◌, ◌^◌, ◌≡◌, refl, Bool, true, false, not, List, [], ◌∷◌, eqb, T, None, Some}
 use Rattle.units.specs.declared.Module.{Module}
 use Rattle.units.specs.declared.Module.TheVariants.{Bench, Handheld}
 use Rattle.units.specs.declared.Clock.{Clock}
-use Rattle.units.specs.declared.Event.TheVariants.{Never, On}
 use Rattle.units.specs.Module.{banks, rows, columns, bench_columns, lanes, has_full_page, page_bytes, module_of}
 use Rattle.units.specs.Time.{clock, time, at, clocks_after, plus, later, by, occurred, clocks_of, lasts}
 use Rattle.units.specs.Facts.{all_true, same_numbers}
@@ -92,12 +91,12 @@ times =
     ∷ by (time 0) (time 0)
     ∷ not (by (time 1) (time 0))
     -- an event, and the clocks on which it stands; one on clock 0 has occurred
-    ∷ not (occurred Never)
-    ∷ occurred (On (clock 0))
-    ∷ occurred (On (clock 9))
-    ∷ same_numbers (numbers (clocks_of Never)) []
-    ∷ same_numbers (numbers (clocks_of (On (clock 0)))) (0 ∷ [])
-    ∷ same_numbers (numbers (clocks_of (On (clock 9)))) (9 ∷ [])
+    ∷ not (occurred None)
+    ∷ occurred (Some (clock 0))
+    ∷ occurred (Some (clock 9))
+    ∷ same_numbers (numbers (clocks_of None)) []
+    ∷ same_numbers (numbers (clocks_of (Some (clock 0)))) (0 ∷ [])
+    ∷ same_numbers (numbers (clocks_of (Some (clock 9)))) (9 ∷ [])
     ∷ []
 
 pub times_right : T (all_true times)

@@ -14,20 +14,18 @@ pub fn at(period: Ps, n: Clock) -> Ps
 }
 
 // The last clock in reach: "the clock is above 2^40" is 23, and a skip or a full page lies past it.
-const CLOCK_MAX: u64 = 1_099_545_182_208;
+const CLOCK_MAX: Clock = Clock(1_099_545_182_208);
 
-const PERIOD_MAX: u64 = 65_535;
+const PERIOD_MAX: Ps = Ps(65_535);
 
 // The same for every clock and period, and 0 out of reach.
 #[tactic(auto, unfolding(crate::specs::Time::lasts))]
 pub fn lasts(n: Clock, period: Ps) -> Ps
     ensures { result ≡ lasts n period }
 {
-    if CLOCK_MAX < n.0 {
-        return Ps(0);
+    if n <= CLOCK_MAX && period <= PERIOD_MAX {
+        at(period, n)
+    } else {
+        Ps(0)
     }
-    if PERIOD_MAX < period.0 {
-        return Ps(0);
-    }
-    at(period, n)
 }

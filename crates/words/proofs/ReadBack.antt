@@ -1,4 +1,6 @@
 -- READ BACK: the words of a state are read as that state, and hold it. Assumes nothing.
+use Rattle.units.specs.declared.Clock.{Clock}
+use Rattle.std.specs.Prelude.{Option, None, Some}
 use Prim.Native.Nat.{ℕ, ◌+◌, ◌<◌, ◌/◌, ◌%◌}
 use native.Mathlib.Omega.{arith}
 use mathlib.Core.Path.{◌≡◌, refl, ap, sym, ◌∙◌}
@@ -7,8 +9,6 @@ use mathlib.Core.List.{List, [], ◌∷◌, ◌++◌}
 use lib.Dec.{eqb, ltb}
 use lib.ListN.{length, replicate}
 use borrow.Author.Tests.{lt-ltb, eq-eqb, eqb-true, ltb-true}
-use Rattle.units.specs.declared.Event.{Event}
-use Rattle.units.specs.declared.Event.TheVariants.{Never, On}
 use Rattle.units.specs.declared.Module.{Module}
 use Rattle.units.specs.Time.{clock, time}
 use Rattle.units.specs.Module.{has_full_page}
@@ -18,14 +18,13 @@ use Rattle.mode.specs.Word.{well_formed, legal, latency, full_page, interleaved}
 use Rattle.mode.proofs.Shown.{legal_is}
 use Rattle.bursts.specs.declared.Burst.{Burst}
 use Rattle.rules.specs.declared.Refreshes.{Refreshes}
-use Rattle.rules.specs.declared.Refreshes.TheVariants.{None, One, Two}
+use Rattle.rules.specs.declared.Refreshes.TheVariants.{Zero, One, Two}
 use Rattle.rules.specs.declared.Register.{Register}
-use Rattle.rules.specs.declared.Register.TheVariants.{Unloaded, Loaded}
 use Rattle.rules.specs.declared.Status.{Status}
 use Rattle.rules.specs.declared.Status.TheVariants.{NotStarted, Open, Closed}
 use Rattle.rules.specs.declared.Bank.{Bank}
 use Rattle.rules.specs.declared.State.{State}
-use Rattle.rules.specs.Parts.{bank_of, state_module}
+use Rattle.rules.specs.Parts.{bank_of, state_module, loaded}
 use Rattle.rules.specs.Admitted.{Each, StatusOn, RegisterOn, BurstOn, Admitted}
 use Rattle.words.specs.Words.{
   state_words,
@@ -77,23 +76,23 @@ unfolding flag
 flag_again true = refl
 flag_again false = refl
 
-event_again : (e : Event) → event_in (event_kind e ∷ event_number e ∷ []) 0 ≡ e
+event_again : (e : Option Clock) → event_in (event_kind e ∷ event_number e ∷ []) 0 ≡ e
 unfolding event_in
-event_again Never = refl
-event_again (On n) = refl
+event_again None = refl
+event_again (Some n) = refl
 
 -- numbers 9 and 10, and 11 to 13, after any others
 refreshes_again : (x : Refreshes) → refreshes_in (replicate 9 0 ++ (refreshes_kind x ∷ refreshes_number x ∷ [])) ≡ x
 unfolding refreshes_in
-refreshes_again None = refl
+refreshes_again Zero = refl
 refreshes_again (One n) = refl
 refreshes_again (Two n) = refl
 
-register_again : (x : Register) → NarrowRegister x
+register_again : (x : Option Register) → NarrowRegister x
     → register_in (replicate 11 0 ++ (register_kind x ∷ register_word x ∷ register_number x ∷ [])) ≡ x
 unfolding register_in
-register_again Unloaded h = refl
-register_again (Loaded word n) h = ap (λ (k : ℕ). Loaded k n) (middle_again h)
+register_again None h = refl
+register_again (Some l) h = ap (λ (k : ℕ). loaded k l.clock) (middle_again h)
 
 -- ── One burst, one bank ──
 
@@ -266,7 +265,7 @@ register_fits : (l : List ℕ) → NarrowRegister (register_in l)
 unfolding register_in
 register_fits l = go (eqb (number_in l 11) 0)
   where
-    go : (x : Bool) → NarrowRegister (cond x Unloaded (Loaded (middle (number_in l 12)) (clock (number_in l 13))))
+    go : (x : Bool) → NarrowRegister (cond x None (loaded (middle (number_in l 12)) (clock (number_in l 13))))
     go true = tt
     go false = middle_fits (number_in l 12)
 
@@ -334,9 +333,9 @@ burst_narrow m b h =
       word = legal_narrow m b.word h.word;
     }
 
-register_narrow : (m : Module) (x : Register) → RegisterOn m x → NarrowRegister x
-register_narrow m Unloaded h = tt
-register_narrow m (Loaded word n) h = legal_narrow m word h
+register_narrow : (m : Module) (x : Option Register) → RegisterOn m x → NarrowRegister x
+register_narrow m None h = tt
+register_narrow m (Some l) h = legal_narrow m l.word h
 
 status_narrow : (m : Module) (x : Status) → StatusOn m x → NarrowStatus x
 status_narrow m NotStarted h = tt

@@ -1,18 +1,16 @@
 -- The words by rows: what each place means, both ways; then words that no state has, and which words hold one. Assumes nothing.
-use Rattle.std.specs.Prelude.{ℕ, suc, ◌≡◌, refl, Bool, true, false, not, List, [], ◌∷◌, ◌++◌, T, replicate, set}
-use Rattle.units.specs.declared.Event.{Event}
-use Rattle.units.specs.declared.Event.TheVariants.{Never, On}
+use Rattle.units.specs.declared.Clock.{Clock}
+use Rattle.std.specs.Prelude.{ℕ, suc, ◌≡◌, refl, Bool, true, false, not, List, [], ◌∷◌, ◌++◌, T, replicate, set, Option, None, Some}
 use Rattle.units.specs.Time.{clock, time}
 use Rattle.units.specs.Facts.{all_true}
 use Rattle.bursts.specs.declared.Burst.{Burst}
 use Rattle.bursts.specs.declared.Bus.{Bus}
-use Rattle.rules.specs.declared.Refreshes.TheVariants.{None, One, Two}
-use Rattle.rules.specs.declared.Register.TheVariants.{Unloaded, Loaded}
+use Rattle.rules.specs.declared.Refreshes.TheVariants.{Zero, One, Two}
 use Rattle.rules.specs.declared.StartUp.{StartUp}
 use Rattle.rules.specs.declared.Status.TheVariants.{NotStarted, Open, Closed}
 use Rattle.rules.specs.declared.Bank.{Bank}
 use Rattle.rules.specs.declared.State.{State}
-use Rattle.rules.specs.Parts.{startup_of, bank_of, no_bank}
+use Rattle.rules.specs.Parts.{startup_of, bank_of, no_bank, loaded}
 use Rattle.words.specs.Words.{
   state_words,
   small,
@@ -44,7 +42,7 @@ but (i ∷ []) = replicate state_words 0
 but (i ∷ n ∷ more) = set (but more) i n
 
 -- the state of 94 zeros, but for these parts
-abbrev state_of : ℕ → ℕ → ℕ → ℕ → ℕ → Event → StartUp → Bus → List Bank → State
+abbrev state_of : ℕ → ℕ → ℕ → ℕ → ℕ → Option Clock → StartUp → Bus → List Bank → State
 state_of period grade bank row number last startup bus banks =
     record {
       core =
@@ -61,13 +59,13 @@ state_of period grade bank row number last startup bus banks =
       banks = banks;
     }
 
-abbrev burst : Bool → Bool → ℕ → ℕ → ℕ → ℕ → Event → ℕ → Burst
+abbrev burst : Bool → Bool → ℕ → ℕ → ℕ → ℕ → Option Clock → ℕ → Burst
 burst live auto bank row column start cut word =
     record { live = live; auto = auto; bank = bank; row = row; column = column; start = clock start; cut = cut; word = word }
 
 -- bursts of zeros
 abbrev none : Burst
-none = burst false false 0 0 0 0 Never 0
+none = burst false false 0 0 0 0 None 0
 
 abbrev bus : Burst → Burst → Burst → Burst → Burst → ℕ → ℕ → ℕ → Bus
 bus w a b c d first second third =
@@ -77,28 +75,28 @@ abbrev no_bus : Bus
 no_bus = bus none none none none none 0 0 0
 
 abbrev no_startup : StartUp
-no_startup = startup_of Never None Unloaded
+no_startup = startup_of None Zero None
 
 abbrev no_banks : List Bank
 no_banks = no_bank ∷ no_bank ∷ no_bank ∷ no_bank ∷ []
 
 abbrev blank : State
-blank = state_of 0 0 0 0 0 Never no_startup no_bus no_banks
+blank = state_of 0 0 0 0 0 None no_startup no_bus no_banks
 
-abbrev with_last : Event → State
+abbrev with_last : Option Clock → State
 with_last e = state_of 0 0 0 0 0 e no_startup no_bus no_banks
 
 abbrev with_startup : StartUp → State
-with_startup u = state_of 0 0 0 0 0 Never u no_bus no_banks
+with_startup u = state_of 0 0 0 0 0 None u no_bus no_banks
 
 abbrev with_bus : Bus → State
-with_bus u = state_of 0 0 0 0 0 Never no_startup u no_banks
+with_bus u = state_of 0 0 0 0 0 None no_startup u no_banks
 
 abbrev with_write : Burst → State
 with_write w = with_bus (bus w none none none none 0 0 0)
 
 abbrev with_banks : Bank → Bank → Bank → Bank → State
-with_banks a b c d = state_of 0 0 0 0 0 Never no_startup no_bus (a ∷ b ∷ c ∷ d ∷ [])
+with_banks a b c d = state_of 0 0 0 0 0 None no_startup no_bus (a ∷ b ∷ c ∷ d ∷ [])
 
 abbrev with_first : Bank → State
 with_first b = with_banks b no_bank no_bank no_bank
@@ -110,13 +108,13 @@ from i (n ∷ ns) = i ∷ n ∷ from (suc i) ns
 
 -- a burst that uses each of its nine numbers, and a bank that uses all but its closing time
 abbrev full : Burst
-full = burst true true 2 3 4 5 (On (clock 6)) 7
+full = burst true true 2 3 4 5 (Some (clock 6)) 7
 
 abbrev full_numbers : List ℕ
 full_numbers = 1 ∷ 1 ∷ 2 ∷ 3 ∷ 4 ∷ 5 ∷ 1 ∷ 6 ∷ 7 ∷ []
 
 abbrev busy : Bank
-busy = bank_of (Open 7 (clock 8)) (On (clock 10)) (On (clock 11))
+busy = bank_of (Open 7 (clock 8)) (Some (clock 10)) (Some (clock 11))
 
 abbrev busy_numbers : List ℕ
 busy_numbers = 1 ∷ 7 ∷ 8 ∷ 0 ∷ 1 ∷ 10 ∷ 1 ∷ 11 ∷ []
@@ -157,20 +155,20 @@ abbrev pub places : List Row
 places =
     [] are blank
     -- 0 to 4: the period, the grade, the watched bank and row, the number of the next record
-    ∷ (0 ∷ 7_500 ∷ 1 ∷ 2 ∷ 2 ∷ 3 ∷ 3 ∷ 8_191 ∷ 4 ∷ 12 ∷ []) are state_of 7_500 2 3 8_191 12 Never no_startup no_bus no_banks
+    ∷ (0 ∷ 7_500 ∷ 1 ∷ 2 ∷ 2 ∷ 3 ∷ 3 ∷ 8_191 ∷ 4 ∷ 12 ∷ []) are state_of 7_500 2 3 8_191 12 None no_startup no_bus no_banks
     -- 5 and 6: the last record, also on clock 0
-    ∷ (5 ∷ 1 ∷ []) are with_last (On (clock 0))
-    ∷ (5 ∷ 1 ∷ 6 ∷ 9 ∷ []) are with_last (On (clock 9))
+    ∷ (5 ∷ 1 ∷ []) are with_last (Some (clock 0))
+    ∷ (5 ∷ 1 ∷ 6 ∷ 9 ∷ []) are with_last (Some (clock 9))
     -- 7 to 13: PRECHARGE ALL, the refreshes, the mode register
-    ∷ (7 ∷ 1 ∷ 8 ∷ 9 ∷ []) are with_startup (startup_of (On (clock 9)) None Unloaded)
-    ∷ (9 ∷ 1 ∷ 10 ∷ 9 ∷ []) are with_startup (startup_of Never (One (clock 9)) Unloaded)
-    ∷ (9 ∷ 2 ∷ 10 ∷ 9 ∷ []) are with_startup (startup_of Never (Two (clock 9)) Unloaded)
-    ∷ (11 ∷ 1 ∷ 12 ∷ 0x33 ∷ 13 ∷ 9 ∷ []) are with_startup (startup_of Never None (Loaded 0x33 (clock 9)))
+    ∷ (7 ∷ 1 ∷ 8 ∷ 9 ∷ []) are with_startup (startup_of (Some (clock 9)) Zero None)
+    ∷ (9 ∷ 1 ∷ 10 ∷ 9 ∷ []) are with_startup (startup_of None (One (clock 9)) None)
+    ∷ (9 ∷ 2 ∷ 10 ∷ 9 ∷ []) are with_startup (startup_of None (Two (clock 9)) None)
+    ∷ (11 ∷ 1 ∷ 12 ∷ 0x33 ∷ 13 ∷ 9 ∷ []) are with_startup (startup_of None Zero (loaded 0x33 (clock 9)))
     -- 14 to 22: the WRITE, each of its numbers; then its two flags and its cut, each alone
     ∷ from 14 full_numbers are with_write full
-    ∷ (14 ∷ 1 ∷ []) are with_write (burst true false 0 0 0 0 Never 0)
-    ∷ (15 ∷ 1 ∷ []) are with_write (burst false true 0 0 0 0 Never 0)
-    ∷ (20 ∷ 1 ∷ []) are with_write (burst false false 0 0 0 0 (On (clock 0)) 0)
+    ∷ (14 ∷ 1 ∷ []) are with_write (burst true false 0 0 0 0 None 0)
+    ∷ (15 ∷ 1 ∷ []) are with_write (burst false true 0 0 0 0 None 0)
+    ∷ (20 ∷ 1 ∷ []) are with_write (burst false false 0 0 0 0 (Some (clock 0)) 0)
     -- 23, 32, 41 and 50 on: the four READs, the latest first
     ∷ from 23 full_numbers are with_bus (bus none full none none none 0 0 0)
     ∷ from 32 full_numbers are with_bus (bus none none full none none 0 0 0)
@@ -179,23 +177,23 @@ places =
     -- 59 to 61: the masks, on the last record's clock first
     ∷ (59 ∷ 253 ∷ 60 ∷ 254 ∷ 61 ∷ 255 ∷ []) are with_bus (bus none none none none none 253 254 255)
     -- 62 to 69: bank 0 open, closed, and its two events, each alone
-    ∷ (62 ∷ 1 ∷ 63 ∷ 7 ∷ 64 ∷ 8 ∷ []) are with_first (bank_of (Open 7 (clock 8)) Never Never)
-    ∷ (62 ∷ 2 ∷ 65 ∷ 9 ∷ []) are with_first (bank_of (Closed (time 9)) Never Never)
-    ∷ (66 ∷ 1 ∷ 67 ∷ 10 ∷ []) are with_first (bank_of NotStarted (On (clock 10)) Never)
-    ∷ (68 ∷ 1 ∷ 69 ∷ 11 ∷ []) are with_first (bank_of NotStarted Never (On (clock 11)))
+    ∷ (62 ∷ 1 ∷ 63 ∷ 7 ∷ 64 ∷ 8 ∷ []) are with_first (bank_of (Open 7 (clock 8)) None None)
+    ∷ (62 ∷ 2 ∷ 65 ∷ 9 ∷ []) are with_first (bank_of (Closed (time 9)) None None)
+    ∷ (66 ∷ 1 ∷ 67 ∷ 10 ∷ []) are with_first (bank_of NotStarted (Some (clock 10)) None)
+    ∷ (68 ∷ 1 ∷ 69 ∷ 11 ∷ []) are with_first (bank_of NotStarted None (Some (clock 11)))
     -- 70, 78 and 86 on: the other banks
     ∷ from 70 busy_numbers are with_banks no_bank busy no_bank no_bank
     ∷ from 78 busy_numbers are with_banks no_bank no_bank busy no_bank
     ∷ from 86 busy_numbers are with_banks no_bank no_bank no_bank busy
     -- just below the largest of 8 and of 16 bits
-    ∷ (1 ∷ 254 ∷ 3 ∷ 65_534 ∷ []) are state_of 0 254 0 65_534 0 Never no_startup no_bus no_banks
+    ∷ (1 ∷ 254 ∷ 3 ∷ 65_534 ∷ []) are state_of 0 254 0 65_534 0 None no_startup no_bus no_banks
     -- 64 bits: the period, the record number, clocks, a closing time
-    ∷ (0 ∷ most ∷ 4 ∷ most ∷ 5 ∷ 1 ∷ 6 ∷ most ∷ []) are state_of most 0 0 0 most (On (clock most)) no_startup no_bus no_banks
-    ∷ (9 ∷ 1 ∷ 10 ∷ most ∷ 11 ∷ 1 ∷ 13 ∷ most ∷ []) are with_startup (startup_of Never (One (clock most)) (Loaded 0 (clock most)))
-    ∷ (9 ∷ 2 ∷ 10 ∷ most ∷ []) are with_startup (startup_of Never (Two (clock most)) Unloaded)
-    ∷ (19 ∷ most ∷ []) are with_write (burst false false 0 0 0 most Never 0)
-    ∷ (62 ∷ 1 ∷ 64 ∷ most ∷ []) are with_first (bank_of (Open 0 (clock most)) Never Never)
-    ∷ (62 ∷ 2 ∷ 65 ∷ most ∷ []) are with_first (bank_of (Closed (time most)) Never Never)
+    ∷ (0 ∷ most ∷ 4 ∷ most ∷ 5 ∷ 1 ∷ 6 ∷ most ∷ []) are state_of most 0 0 0 most (Some (clock most)) no_startup no_bus no_banks
+    ∷ (9 ∷ 1 ∷ 10 ∷ most ∷ 11 ∷ 1 ∷ 13 ∷ most ∷ []) are with_startup (startup_of None (One (clock most)) (loaded 0 (clock most)))
+    ∷ (9 ∷ 2 ∷ 10 ∷ most ∷ []) are with_startup (startup_of None (Two (clock most)) None)
+    ∷ (19 ∷ most ∷ []) are with_write (burst false false 0 0 0 most None 0)
+    ∷ (62 ∷ 1 ∷ 64 ∷ most ∷ []) are with_first (bank_of (Open 0 (clock most)) None None)
+    ∷ (62 ∷ 2 ∷ 65 ∷ most ∷ []) are with_first (bank_of (Closed (time most)) None None)
     ∷ []
 
 pub places_read : read places ≡ states places
@@ -212,20 +210,20 @@ places_written = refl
 abbrev pub loose : List Row
 loose =
     -- past 8 bits: the grade, the watched bank, the bank of a burst, the masks
-    (1 ∷ 256 ∷ 2 ∷ 1_000 ∷ []) are state_of 0 255 255 0 0 Never no_startup no_bus no_banks
-    ∷ (16 ∷ 256 ∷ []) are with_write (burst false false 255 0 0 0 Never 0)
+    (1 ∷ 256 ∷ 2 ∷ 1_000 ∷ []) are state_of 0 255 255 0 0 None no_startup no_bus no_banks
+    ∷ (16 ∷ 256 ∷ []) are with_write (burst false false 255 0 0 0 None 0)
     ∷ (59 ∷ 256 ∷ 60 ∷ 257 ∷ 61 ∷ 65_536 ∷ []) are with_bus (bus none none none none none 255 255 255)
     -- past 16 bits: the rows, the column, the mode words
-    ∷ (3 ∷ 65_536 ∷ []) are state_of 0 0 0 65_535 0 Never no_startup no_bus no_banks
-    ∷ (17 ∷ 65_536 ∷ 18 ∷ 65_537 ∷ 22 ∷ 1_000_000 ∷ []) are with_write (burst false false 0 65_535 65_535 0 Never 65_535)
-    ∷ (11 ∷ 1 ∷ 12 ∷ 65_536 ∷ []) are with_startup (startup_of Never None (Loaded 65_535 (clock 0)))
-    ∷ (62 ∷ 1 ∷ 63 ∷ 65_536 ∷ []) are with_first (bank_of (Open 65_535 (clock 0)) Never Never)
+    ∷ (3 ∷ 65_536 ∷ []) are state_of 0 0 0 65_535 0 None no_startup no_bus no_banks
+    ∷ (17 ∷ 65_536 ∷ 18 ∷ 65_537 ∷ 22 ∷ 1_000_000 ∷ []) are with_write (burst false false 0 65_535 65_535 0 None 65_535)
+    ∷ (11 ∷ 1 ∷ 12 ∷ 65_536 ∷ []) are with_startup (startup_of None Zero (loaded 65_535 (clock 0)))
+    ∷ (62 ∷ 1 ∷ 63 ∷ 65_536 ∷ []) are with_first (bank_of (Open 65_535 (clock 0)) None None)
     -- a kind past the last is the last
-    ∷ (14 ∷ 2 ∷ 15 ∷ 3 ∷ []) are with_write (burst true true 0 0 0 0 Never 0)
-    ∷ (5 ∷ 2 ∷ 6 ∷ 9 ∷ []) are with_last (On (clock 9))
-    ∷ (9 ∷ 3 ∷ 10 ∷ 9 ∷ []) are with_startup (startup_of Never (Two (clock 9)) Unloaded)
-    ∷ (11 ∷ 2 ∷ 13 ∷ 9 ∷ []) are with_startup (startup_of Never None (Loaded 0 (clock 9)))
-    ∷ (62 ∷ 3 ∷ 65 ∷ 9 ∷ []) are with_first (bank_of (Closed (time 9)) Never Never)
+    ∷ (14 ∷ 2 ∷ 15 ∷ 3 ∷ []) are with_write (burst true true 0 0 0 0 None 0)
+    ∷ (5 ∷ 2 ∷ 6 ∷ 9 ∷ []) are with_last (Some (clock 9))
+    ∷ (9 ∷ 3 ∷ 10 ∷ 9 ∷ []) are with_startup (startup_of None (Two (clock 9)) None)
+    ∷ (11 ∷ 2 ∷ 13 ∷ 9 ∷ []) are with_startup (startup_of None Zero (loaded 0 (clock 9)))
+    ∷ (62 ∷ 3 ∷ 65 ∷ 9 ∷ []) are with_first (bank_of (Closed (time 9)) None None)
     -- a number that the kind does not use
     ∷ (6 ∷ 9 ∷ []) are blank
     ∷ (8 ∷ 9 ∷ []) are blank
@@ -238,9 +236,9 @@ loose =
     ∷ (65 ∷ 9 ∷ []) are blank
     ∷ (67 ∷ 9 ∷ []) are blank
     ∷ (69 ∷ 9 ∷ []) are blank
-    ∷ (62 ∷ 1 ∷ 65 ∷ 9 ∷ []) are with_first (bank_of (Open 0 (clock 0)) Never Never)
-    ∷ (62 ∷ 2 ∷ 63 ∷ 7 ∷ []) are with_first (bank_of (Closed (time 0)) Never Never)
-    ∷ (62 ∷ 2 ∷ 64 ∷ 8 ∷ []) are with_first (bank_of (Closed (time 0)) Never Never)
+    ∷ (62 ∷ 1 ∷ 65 ∷ 9 ∷ []) are with_first (bank_of (Open 0 (clock 0)) None None)
+    ∷ (62 ∷ 2 ∷ 63 ∷ 7 ∷ []) are with_first (bank_of (Closed (time 0)) None None)
+    ∷ (62 ∷ 2 ∷ 64 ∷ 8 ∷ []) are with_first (bank_of (Closed (time 0)) None None)
     ∷ []
 
 pub loose_read : read loose ≡ states loose
@@ -255,8 +253,8 @@ pub bounds_read :
     ∷ state_in []
     ∷ state_in (replicate 94 0 ++ (5 ∷ []))
     ∷ [])
-    ≡ (state_of 0 255 0 65_535 0 Never no_startup no_bus no_banks
-    ∷ state_of 7_500 0 0 0 0 Never no_startup no_bus no_banks
+    ≡ (state_of 0 255 0 65_535 0 None no_startup no_bus no_banks
+    ∷ state_of 7_500 0 0 0 0 None no_startup no_bus no_banks
     ∷ blank
     ∷ blank
     ∷ [])

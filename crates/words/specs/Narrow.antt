@@ -1,10 +1,9 @@
 -- What a state must be to be read back from its words: four READs, four banks, and 8 or 16 bits where the words are read so, as
 -- the code's types have it. Definitions only.
-use Rattle.std.specs.Prelude.{◌<◌, ◌≡◌, length}
+use Rattle.std.specs.Prelude.{◌<◌, ◌≡◌, length, Option, None, Some}
 use Rattle.bursts.specs.declared.Burst.{Burst}
 use Rattle.bursts.specs.declared.Masks.{Masks}
 use Rattle.rules.specs.declared.Register.{Register}
-use Rattle.rules.specs.declared.Register.TheVariants.{Unloaded, Loaded}
 use Rattle.rules.specs.declared.Status.{Status}
 use Rattle.rules.specs.declared.Status.TheVariants.{NotStarted, Open, Closed}
 use Rattle.rules.specs.declared.Bank.{Bank}
@@ -22,9 +21,9 @@ pub record NarrowMasks (m : Masks) : Type 0 where
   pub second : m.second < 256
   pub third : m.third < 256
 
-abbrev pub NarrowRegister : Register → Type 0
-NarrowRegister Unloaded = Unit {0}
-NarrowRegister (Loaded word n) = word < 65_536
+abbrev pub NarrowRegister : Option Register → Type 0
+NarrowRegister None = Unit {0}
+NarrowRegister (Some l) = l.word < 65_536
 
 abbrev pub NarrowStatus : Status → Type 0
 NarrowStatus NotStarted = Unit {0}

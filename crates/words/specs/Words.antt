@@ -1,15 +1,14 @@
 -- The state as 94 numbers, the words, for a caller that holds it in C. Definitions only.
-use Rattle.std.specs.Prelude.{ℕ, ◌+◌, Bool, true, false, not, ◌&&◌, cond, List, [], ◌∷◌, ◌++◌, eqb, ltb, length, get_or}
-use Rattle.units.specs.declared.Event.{Event}
-use Rattle.units.specs.declared.Event.TheVariants.{Never, On}
+use Rattle.rules.specs.Parts.{loaded}
+use Rattle.units.specs.declared.Clock.{Clock}
+use Rattle.std.specs.Prelude.{ℕ, ◌+◌, Bool, true, false, not, ◌&&◌, cond, List, [], ◌∷◌, ◌++◌, eqb, ltb, length, get_or, Option, None, Some}
 use Rattle.units.specs.Time.{clock, time}
 use Rattle.bursts.specs.declared.Burst.{Burst}
 use Rattle.bursts.specs.declared.Masks.{Masks}
 use Rattle.bursts.specs.declared.Bus.{Bus}
 use Rattle.rules.specs.declared.Refreshes.{Refreshes}
-use Rattle.rules.specs.declared.Refreshes.TheVariants.{None, One, Two}
+use Rattle.rules.specs.declared.Refreshes.TheVariants.{Zero, One, Two}
 use Rattle.rules.specs.declared.Register.{Register}
-use Rattle.rules.specs.declared.Register.TheVariants.{Unloaded, Loaded}
 use Rattle.rules.specs.declared.StartUp.{StartUp}
 use Rattle.rules.specs.declared.Status.{Status}
 use Rattle.rules.specs.declared.Status.TheVariants.{NotStarted, Open, Closed}
@@ -41,17 +40,17 @@ unfoldable pub flag : ℕ → Bool
 flag n = not (eqb n 0)
 
 -- two numbers from i on: 0 for an event that has not occurred; any other number, and its clock
-unfoldable pub event_in : List ℕ → ℕ → Event
-event_in l i = cond (eqb (number_in l i) 0) Never (On (clock (number_in l (i + 1))))
+unfoldable pub event_in : List ℕ → ℕ → Option Clock
+event_in l i = cond (eqb (number_in l i) 0) None (Some (clock (number_in l (i + 1))))
 
 -- numbers 9 and 10: 0 none; 1 one, any other number two, and the clock of the last
 unfoldable pub refreshes_in : List ℕ → Refreshes
 refreshes_in l =
-    cond (eqb (number_in l 9) 0) None (cond (eqb (number_in l 9) 1) (One (clock (number_in l 10))) (Two (clock (number_in l 10))))
+    cond (eqb (number_in l 9) 0) Zero (cond (eqb (number_in l 9) 1) (One (clock (number_in l 10))) (Two (clock (number_in l 10))))
 
 -- numbers 11 to 13: 0 unloaded; any other number, the mode word, and the clock of the LOAD MODE
-unfoldable pub register_in : List ℕ → Register
-register_in l = cond (eqb (number_in l 11) 0) Unloaded (Loaded (middle (number_in l 12)) (clock (number_in l 13)))
+unfoldable pub register_in : List ℕ → Option Register
+register_in l = cond (eqb (number_in l 11) 0) None (loaded (middle (number_in l 12)) (clock (number_in l 13)))
 
 -- numbers 7 to 13: the steps of start-up
 unfoldable pub startup_in : List ℕ → StartUp
@@ -124,25 +123,25 @@ abbrev pub flag_number : Bool → ℕ
 flag_number false = 0
 flag_number true = 1
 
-abbrev pub event_kind : Event → ℕ
-event_kind Never = 0
-event_kind (On n) = 1
+abbrev pub event_kind : Option Clock → ℕ
+event_kind None = 0
+event_kind (Some n) = 1
 
-abbrev pub event_number : Event → ℕ
-event_number Never = 0
-event_number (On n) = n.0
+abbrev pub event_number : Option Clock → ℕ
+event_number None = 0
+event_number (Some n) = n.0
 
 -- an event's two numbers
-abbrev pub event_numbers : Event → List ℕ
+abbrev pub event_numbers : Option Clock → List ℕ
 event_numbers e = event_kind e ∷ event_number e ∷ []
 
 abbrev pub refreshes_kind : Refreshes → ℕ
-refreshes_kind None = 0
+refreshes_kind Zero = 0
 refreshes_kind (One n) = 1
 refreshes_kind (Two n) = 2
 
 abbrev pub refreshes_number : Refreshes → ℕ
-refreshes_number None = 0
+refreshes_number Zero = 0
 refreshes_number (One n) = n.0
 refreshes_number (Two n) = n.0
 
@@ -150,20 +149,20 @@ refreshes_number (Two n) = n.0
 abbrev pub refreshes_numbers : Refreshes → List ℕ
 refreshes_numbers x = refreshes_kind x ∷ refreshes_number x ∷ []
 
-abbrev pub register_kind : Register → ℕ
-register_kind Unloaded = 0
-register_kind (Loaded word n) = 1
+abbrev pub register_kind : Option Register → ℕ
+register_kind None = 0
+register_kind (Some l) = 1
 
-abbrev pub register_word : Register → ℕ
-register_word Unloaded = 0
-register_word (Loaded word n) = word
+abbrev pub register_word : Option Register → ℕ
+register_word None = 0
+register_word (Some l) = l.word
 
-abbrev pub register_number : Register → ℕ
-register_number Unloaded = 0
-register_number (Loaded word n) = n.0
+abbrev pub register_number : Option Register → ℕ
+register_number None = 0
+register_number (Some l) = l.clock.0
 
 -- the three numbers of the mode register
-abbrev pub register_numbers : Register → List ℕ
+abbrev pub register_numbers : Option Register → List ℕ
 register_numbers x = register_kind x ∷ register_word x ∷ register_number x ∷ []
 
 abbrev pub status_kind : Status → ℕ

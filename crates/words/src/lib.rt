@@ -3,7 +3,7 @@
 #![tactic(auto)]
 
 ghost use Rattle.std.specs.Prelude.{◌≡◌};
-ghost use Rattle.words.specs.Words.{state_in, words_of, same, holds, put_words};
+ghost use Rattle.words.specs.Words.{state_in, words_of, holds, put_words};
 
 mod reading;
 mod writing;
@@ -18,59 +18,36 @@ pub const WORDS: usize = 94;
 pub fn state(words: &[u64]) -> State
     ensures { result ≡ state_in words.now }
 {
-    let core = reading::core(words);
-    let banks = reading::banks(words);
-    State { core, banks }
+    State {
+        core: reading::core(words),
+        banks: reading::banks(words),
+    }
 }
 
 // The words of this state, where the slice has their places.
-#[tactic(auto, unfolding(crate::specs::Words::words_of, crate::specs::Words::put_words))]
+#[tactic(auto, using(crate::proofs::Stores::state_stored))]
 pub fn put(s: State, words: &mut [u64])
     ensures { words.new ≡ put_words (words_of s) words.old }
 {
-    let core = s.core;
-    writing::put_head(words, core);
-    writing::put_bus(words, core.bus);
-    let banks = s.banks;
-    writing::put_banks(words, banks);
+    writing::put_head(words, s.core);
+    writing::put_bus(words, s.core.bus);
+    writing::put_banks(words, s.banks);
 }
 
 // All of its words.
-#[tactic(auto, unfolding(crate::specs::Words::words_of))]
-fn numbers(s: State) -> [u64; 94]
+#[tactic(auto, using(crate::proofs::Stores::put_all, crate::proofs::Stores::words_length))]
+fn numbers(s: State) -> [u64; WORDS]
     ensures { result ≡ words_of s }
 {
-    let mut words = [0u64; 94];
+    let mut words = [0; WORDS];
     put(s, &mut words);
     words
 }
 
-// The same numbers, and as many.
-#[tactic(auto, unfolding(crate::specs::Words::same))]
-fn same(a: &[u64], b: &[u64]) -> bool
-    ensures { result ≡ same a.now b.now }
-{
-    if a.len() != b.len() {
-        return false;
-    }
-    let mut i = 0;
-    while i < a.len() {
-        if a[i] != b[i] {
-            return false;
-        }
-        i += 1;
-    }
-    true
-}
-
 // These words are as many as a state has, and are those of the state that they are read as.
-#[tactic(auto, unfolding(crate::specs::Words::holds))]
+#[tactic(auto, using(crate::proofs::Equal::equal_words, crate::proofs::Stores::words_length), unfolding(crate::specs::Words::holds))]
 pub fn holds(words: &[u64]) -> bool
     ensures { result ≡ holds words.now }
 {
-    if words.len() != WORDS {
-        return false;
-    }
-    let own = numbers(state(words));
-    same(words, &own)
+    words == numbers(state(words)).as_slice()
 }

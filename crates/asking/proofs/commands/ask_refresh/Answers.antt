@@ -1,8 +1,11 @@
+-- `asking::commands::ask_refresh` meets its contract, by the ladder of 14 to 16.
 use Rattle.asking.proofs.Ladders.{refresh_ladder}
 use Rattle.asking.proofs.commands.ask_refresh.Goals as goal
 
-pub returns-then-all_closed : goal.returns-then-all_closed
-returns-then-all_closed c = rw (refresh_ladder _ c.args.c _ _ _ _ c.requires.1, ← c.all_closed.ensures, c.if-all_closed.true, ← c.any_shorts-any.ensures, ← c.idle_shorts-idle.ensures, ← c.either.ensures, ← c.lowest.ensures)
+pub returns-then-not-all_closed : goal.returns-then-not-all_closed
+returns-then-not-all_closed c =
+    rw (refresh_ladder _ c.args.c _ _ _ _ c.requires.1, ← c.all_closed.ensures, c.if-not-all_closed.true)
 
 pub returns : goal.returns
-returns c = rw (c.refused.ensures, refresh_ladder _ c.args.c _ _ _ _ c.requires.1, ← c.all_closed.ensures, c.if-all_closed.false)
+returns c =
+    rw (refresh_ladder _ c.args.c _ _ _ _ c.requires.1, ← c.all_closed.ensures, c.if-not-all_closed.false, ← c.any_shorts-any.ensures, ← c.idle_shorts-idle.ensures, ← c.or.ensures, ← c.lowest.ensures)

@@ -6,20 +6,20 @@ use Rattle.asking.proofs.every.ask_moment.Goals as goal
 
 pub returns-then-r-ne0 : goal.returns-then-r-ne0
 unfolding every_rules moment_rules
-returns-then-r-ne0 c = rw (c.refused.ensures, ne_eqb _ _ c.if-r-ne0.true)
+returns-then-r-ne0 c = rw (ne_eqb _ _ c.if-r-ne0.true)
 
 pub returns-then-n-gt-CLOCK_MAX : goal.returns-then-n-gt-CLOCK_MAX
 unfolding every_rules moment_rules
-returns-then-n-gt-CLOCK_MAX c = rw (c.refused-then-n-gt-CLOCK_MAX.ensures, eq-eqb _ _ c.if-r-ne0.false, lt-leb _ _ c.if-n-gt-CLOCK_MAX.true)
+returns-then-n-gt-CLOCK_MAX c = rw (eq-eqb _ _ c.if-r-ne0.false, lt-leb _ _ c.if-n-gt-CLOCK_MAX.true)
 
 pub returns-then-r-ne1 : goal.returns-then-r-ne1
 unfolding every_rules moment_rules
-returns-then-r-ne1 c = rw (c.refused-then-r-ne1.ensures, eq-eqb _ _ c.if-r-ne0.false, le-leb _ _ c.if-n-gt-CLOCK_MAX.false, ne_eqb _ _ c.if-r-ne1.true)
-
-pub returns-then-within : goal.returns-then-within
-unfolding every_rules moment_rules
-returns-then-within c = rw (eq-eqb _ _ c.if-r-ne0.false, le-leb _ _ c.if-n-gt-CLOCK_MAX.false, eq-eqb _ _ c.if-r-ne1.false, ← c.counted_refresh-refresh.ensures, ← c.within.ensures, c.if-within.true)
+returns-then-r-ne1 c = rw (eq-eqb _ _ c.if-r-ne0.false, le-leb _ _ c.if-n-gt-CLOCK_MAX.false, ne_eqb _ _ c.if-r-ne1.true)
 
 pub returns : goal.returns
 unfolding every_rules moment_rules
-returns c = rw (c.refused-2.ensures, eq-eqb _ _ c.if-r-ne0.false, le-leb _ _ c.if-n-gt-CLOCK_MAX.false, eq-eqb _ _ c.if-r-ne1.false, ← c.counted_refresh-refresh.ensures, ← c.within.ensures, c.if-within.false)
+returns c = rw (eq-eqb _ _ c.if-r-ne0.false, le-leb _ _ c.if-n-gt-CLOCK_MAX.false, eq-eqb _ _ c.if-r-ne1.false, ← c.counted.ensures, ← c.within.ensures, c.if-not-within.false)
+
+pub returns-then-not-within : goal.returns-then-not-within
+unfolding every_rules moment_rules
+returns-then-not-within c = rw (eq-eqb _ _ c.if-r-ne0.false, le-leb _ _ c.if-n-gt-CLOCK_MAX.false, eq-eqb _ _ c.if-r-ne1.false, ← c.counted.ensures, ← c.within.ensures, c.if-not-within.true)

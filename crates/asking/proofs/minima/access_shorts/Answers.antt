@@ -4,4 +4,4 @@ use mathlib.Core.Path.{sym}
 use Rattle.asking.proofs.minima.access_shorts.Goals as goal
 
 pub returns : goal.returns
-returns c = rw c.short_opened.ensures (sym (access_shorts _ _ _ c.args.access c.args.b))
+returns c = rw (c.short_opened.ensures, c.none.ensures) (sym (access_shorts _ _ _ c.args.access c.args.b))

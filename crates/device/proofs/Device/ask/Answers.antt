@@ -8,7 +8,7 @@ use Rattle.device.proofs.Device.ask.Goals as goal
 pub returns-then-bytes-ne16 : goal.returns-then-bytes-ne16
 returns-then-bytes-ne16 c =
     let a = c.args in
-    rw (c.answer.ensures, c.refused-wrong.ensures)
+    rw c.answer.ensures
     (sym (ask_wrong a.setup a.self.0 a.bytes.now a.page.now (not_sixteen (state_module a.self.0) a.bytes.now c.if-bytes-ne16.true)))
 
 pub returns : goal.returns

@@ -1,4 +1,5 @@
 -- `device::engine::fold` meets its contract: each turn of the loop is one record of the run, with the banks that the array holds.
+use Rattle.std.specs.Prelude.{Ok}
 use Prim.Native.Nat.{ℕ, ◌*◌, ◌-◌, ◌≤◌, ◌<◌}
 use native.Mathlib.Omega.{arith}
 use mathlib.Core.Path.{◌≡◌, refl, ap, sym, subst, ◌∙◌}
@@ -17,7 +18,6 @@ use Rattle.page.specs.Store.{stored}
 use Rattle.rules.specs.declared.Bank.{Bank}
 use Rattle.rules.specs.declared.Core.{Core}
 use Rattle.rules.specs.declared.Setup.{Setup}
-use Rattle.rules.specs.declared.Verdict.TheVariants.{Taken}
 use Rattle.rules.specs.Parts.{word_in, core_module}
 use Rattle.rules.specs.StartUp.{begun}
 use Rattle.rules.specs.Banks.{bank_at, row_of}
@@ -79,7 +79,7 @@ returns-in_default c =
     (sym
     (from_banks a.u a.core c.hold-held.ensures.banks (records_of (core_module a.core) a.count a.bytes.now) a.page.now a.beats.now
     ∙ l.invariant.5
-    ∙ stops _ _ l.j c.loop-j-test.true a.u st _ _ _ _ _ refl read _ _
+    ∙ stops _ _ l.j c.loop-j-test.true a.u st _ _ _ _ _ refl read _
     (asked_as a.u st r c.core_of-c.ensures c.clock_of-n.ensures c.ask-v.ensures ∙ c.in_default.is)))
 
 pub move_banks-requires : goal.move_banks-requires
@@ -91,9 +91,9 @@ move_banks-requires c =
     let read = record_read a.core a.bytes.now a.count l.j c.requires.0 c.loop-j-test.true l.invariant.6 c.of_grade-m.ensures c.record_from-r.ensures in
     let widths = read_widths _ _ read in
     let call = able_call l.invariant.4 (omega (arith, c.loop-j-test.true)) r widths in
-    let stands : ask a.u st r ≡ Taken = asked_as a.u st r c.core_of-c.ensures c.clock_of-n.ensures c.ask-v.ensures ∙ c.in-Taken.is in
+    let stands : ask a.u st r ≡ Ok tt = asked_as a.u st r c.core_of-c.ensures c.clock_of-n.ensures c.ask-v.ensures ∙ c.in-Ok.is in
     let most : c.clock_of-n.result.0 ≤ clock_max = subst (λ (n : Clock). n.0 ≤ clock_max) (sym c.clock_of-n.ensures) (clock_kept a.u st r stands) in
-    (call.table, call.period, call.banks, most, widths.ba, l.invariant.3)
+    (call.banks, most, widths.ba, l.invariant.3)
 
 pub loop-j-preserved : goal.loop-j-preserved
 loop-j-preserved c =
@@ -102,11 +102,11 @@ loop-j-preserved c =
     let lt = c.loop-j-test.true in
     let r = c.record_from-r.result in
     let n = c.clock_of-n.result in
-    let k = c.command_of-k.result in
+    let k = c.from-k.result in
     let st = state_of a.core l.number l.last l.startup l.bus (banks_in l.held) in
     let read = record_read a.core a.bytes.now a.count l.j c.requires.0 lt l.invariant.6 c.of_grade-m.ensures c.record_from-r.ensures in
     let widths = read_widths _ _ read in
-    let stands : ask a.u st r ≡ Taken = asked_as a.u st r c.core_of-c.ensures c.clock_of-n.ensures c.ask-v.ensures ∙ c.in-Taken.is in
+    let stands : ask a.u st r ≡ Ok tt = asked_as a.u st r c.core_of-c.ensures c.clock_of-n.ensures c.ask-v.ensures ∙ c.in-Ok.is in
     let word = word_in l.startup.register in
     let moved = bus_after k r n word (row_of (bank_at st.banks r.ba).status) l.bus in
     let banks = commanded k a.u.table a.core.period (burst_end k a.u.table a.core.period word n) (begun l.startup) r n (at a.core.period n) st.banks in
@@ -132,7 +132,7 @@ loop-j-preserved c =
           (held_as (packed_held l.invariant.3)
           (banks_kept k (sym c.is_executable.ensures ∙ w.if-is_executable.false) _ _ _ _ _ _ _ st.banks))
     ] in
-    let x = settled a.u st r c.command_of-k.ensures c.clock_of-n.ensures bus startup c.beat_on-beat.ensures held.banks c.mark_bank.ensures.banks in (
+    let x = settled a.u st r c.from-k.ensures c.clock_of-n.ensures bus startup c.beat_on-beat.ensures held.banks c.mark_bank.ensures.banks in (
       omega (arith, lt),
       c.stored.auto.page ∙ l.invariant.1,
       c.report.auto.beats ∙ l.invariant.2,

@@ -23,6 +23,3 @@ invariant-loop-j l =
     × (went_by (setup_of l.t) (state_of l.core l.initial.number l.initial.last l.initial.startup l.initial.bus (banks_in l.initial.held)) (records_of (core_module l.core) l.count l.bytes) l.initial.own l.initial.page l.initial.beats
     ≡ went_by (setup_of l.t) (state_of l.core l.number l.last l.startup l.bus (banks_in l.held)) (records_of (core_module l.core) (l.count - l.j) (drop (16 * l.j) l.bytes)) l.own l.page l.beats)
     × (l.words ≡ words_ahead (drop (16 * l.j) l.bytes))
-
-abbrev pub decreases-loop-j : goal.decreases-loop-j
-decreases-loop-j l = l.count - l.j

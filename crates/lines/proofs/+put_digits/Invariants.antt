@@ -1,5 +1,0 @@
--- Each digit takes a place.
-use Rattle.lines.proofs.+put_digits.Given as goal
-
-abbrev pub decreases-put_digits : goal.decreases-put_digits
-decreases-put_digits l = l.places
