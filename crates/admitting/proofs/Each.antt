@@ -1,17 +1,10 @@
--- Each of the banks, and of the READ bursts, as the code walks them. Assumes nothing.
+-- Each of the READ bursts, as the code walks them. Assumes nothing.
 use Rattle.std.specs.List.{list_all}
 use mathlib.Core.Path.{◌≡◌, refl}
-use mathlib.Core.Bool.{Bool}
 use mathlib.Core.List.{List, [], ◌∷◌}
 use Rattle.units.specs.declared.Module.{Module}
 use Rattle.bursts.specs.declared.Burst.{Burst}
-use Rattle.rules.specs.declared.Bank.{Bank}
-use Rattle.rules.specs.Banks.{every}
 use Rattle.rules.specs.Fits.{burst_fits, bursts_fit}
-
-pub every_bank : (f : Bank → Bool) (bs : List Bank) → list_all f bs ≡ every f bs
-every_bank f [] = refl
-every_bank f (b ∷ bs) = rw (every_bank f bs)
 
 pub every_burst : (m : Module) (bs : List Burst) → list_all (burst_fits m) bs ≡ bursts_fit m bs
 every_burst m [] = refl

@@ -99,11 +99,7 @@ pub fn short_others(period: Ps, ba: u8, banks: [Bank; 4], min: Ps, moment: Ps) -
     requires { FitPeriod period × BanksFit banks × FitSpan min }
     ensures { result ≡ short_others period ba banks min moment }
 {
-    let [a, b, c, d] = banks;
-    short_other(period, ba, 0, a, min, moment)
-        || short_other(period, ba, 1, b, min, moment)
-        || short_other(period, ba, 2, c, min, moment)
-        || short_other(period, ba, 3, d, min, moment)
+    (0..4).any(|i| short_other(period, ba, i, banks[i as usize], min, moment))
 }
 
 // "ACTIVE: tRP since its closing; tRC since its last ACTIVE; tRRD since the last ACTIVE of another bank."
@@ -181,11 +177,9 @@ pub fn short_closings(banks: [Bank; 4], min: Ps, moment: Ps) -> bool
     requires { BanksFit banks × FitSpan min }
     ensures { result ≡ short_closings banks min moment }
 {
-    let [a, b, c, d] = banks;
-    since::short_closed(a.status, min, moment)
-        || since::short_closed(b.status, min, moment)
-        || since::short_closed(c.status, min, moment)
-        || since::short_closed(d.status, min, moment)
+    banks
+        .iter()
+        .any(|b| since::short_closed(b.status, min, moment))
 }
 
 // "AUTO REFRESH, LOAD MODE: .. tRP since each closing." Of the period it asks nothing, where a Timing would.

@@ -1,9 +1,7 @@
 pub mod AutoPrecharge
-pub mod Cutting
 pub mod First
 pub mod Four
 pub mod HasBeat
-pub mod HeldMasks
 pub mod Latest
 pub mod Room
 pub mod Running

@@ -19,7 +19,8 @@ pub fn ends(k: Command, addr: u16, ba: u8, i: u8) -> bool
 }
 
 // The cut of a burst from clock `start`, where one on clock n is asked. It counts after the start only, and where no earlier
-// one does: what a cut took is lost for good.
+// one does: what a cut took is lost for good. By a match and not by one test with `before_cut` and &&: that took 19 instructions a record
+// more in random access, and with & 24 more, for 537.
 fn cut_on(f: bool, start: Clock, n: Clock, cut: Option<Clock>) -> Option<Clock>
     ensures { result ≡ cond f (cut_on start n cut) cut }
 {

@@ -14,10 +14,10 @@ use units::Clock;
 pub fn write_after(k: Command, r: Record, n: Clock, word: u16, row: u16, b: Burst) -> Burst
     ensures { result ≡ write_after k r n word row b }
 {
-    if k == Command::Write {
-        return Burst::at(word, n, r.addr, r.column, r.ba, row);
+    match k {
+        Command::Write => Burst::at(word, n, r.addr, r.column, r.ba, row),
+        _ => b.cut_by(k, r.addr, r.ba, n),
     }
-    b.cut_by(k, r.addr, r.ba, n)
 }
 
 // The bus after command k of record r on clock n, in mode `word`, of the open row.
@@ -25,16 +25,10 @@ pub fn write_after(k: Command, r: Record, n: Clock, word: u16, row: u16, b: Burs
 pub fn bus_after(k: Command, r: Record, n: Clock, word: u16, row: u16, u: Bus) -> Bus
     ensures { result ≡ bus_after k r n word row u }
 {
-    let write = u.write;
-    let reads = u.reads;
-    let masks = u.masks;
-    let next_write = write_after(k, r, n, word, row, write);
-    let next_reads = reads_after(k, r, n, word, row, reads);
-    let next_masks = masks.after(r.skipped, r.masks);
     Bus {
-        write: next_write,
-        reads: next_reads,
-        masks: next_masks,
+        write: write_after(k, r, n, word, row, u.write),
+        reads: reads_after(k, r, n, word, row, u.reads),
+        masks: u.masks.after(r.skipped, r.masks),
     }
 }
 
@@ -51,38 +45,32 @@ pub fn beat_on(
 ) -> Beat
     ensures { result ≡ beat_on last old write reads masks n }
 {
-    let stored = write.write_beat(masks, n);
-    let Beat::Quiet = stored else {
-        return stored;
-    };
-    reads_beat(last, old, reads, n)
+    match write.write_beat(masks, n) {
+        Beat::Quiet => reads_beat(last, old, reads, n),
+        stored => stored,
+    }
 }
 
 // Number 19: no auto precharge burst is unfinished on clock n. A WRITE with M9 = 1 has length 1; the length
 // is worked out only where the WRITE asks auto precharge.
-#[tactic(auto, unfolding(bursts::specs::Bus::bursts_finished))]
+#[tactic(auto, using(bursts::proofs::AutoPrecharge::none_is_finished), unfolding(bursts::specs::Bus::bursts_finished))]
 pub fn bursts_finished(write: Burst, reads: [Burst; 4], n: Clock) -> bool
     ensures { result ≡ bursts_finished write reads n }
 {
-    if write.live & write.auto {
-        let length = write_length(write.word);
-        if !write.finished(length, n) {
-            return false;
-        }
-    }
-    reads_finished(n, reads)
+    (!(write.live && write.auto) || write.finished(write_length(write.word), n))
+        && reads_finished(n, reads)
 }
 
 // The clock before n.
 pub fn one_before(n: Clock) -> Clock
     ensures { result ≡ one_before n }
 {
-    if n.0 < 1 { Clock(0) } else { Clock(n.0 - 1) }
+    Clock(n.0.saturating_sub(1))
 }
 
 // Number 20: no lane "would be driven on its clock, or is driven one clock before" (004's extra clock form). The masks of
 // both clocks come first: where they are all HIGH no READ drives a lane, and none is looked at.
-#[tactic(auto, unfolding(bursts::specs::Bus::bus_clear))]
+#[tactic(auto, using(bursts::proofs::Running::driven_by_masks), unfolding(bursts::specs::Bus::bus_clear))]
 pub fn bus_clear(last: Option<Clock>, old: Masks, reads: [Burst; 4], n: Clock) -> bool
     ensures { result ≡ bus_clear last old reads n }
 {

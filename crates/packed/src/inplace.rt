@@ -41,14 +41,12 @@ pub fn banks(held: &[u64; 32]) -> [Bank; 4]
 }
 
 // Number 13, of the four.
+#[tactic(auto, unfolding(crate::specs::Packed::bank_in))]
 fn rows_within(period: Ps, max: Ps, moment: Ps, held: &[u64; 32]) -> bool
     requires { FitPeriod period × BanksFit (banks_in held.now) }
     ensures { result ≡ every (λ b. open_within period max moment b.status) (banks_in held.now) }
 {
-    every::open_within(period, max, moment, numbers::status(held, 0))
-        && every::open_within(period, max, moment, numbers::status(held, 1))
-        && every::open_within(period, max, moment, numbers::status(held, 2))
-        && every::open_within(period, max, moment, numbers::status(held, 3))
+    (0..4).all(|i| every::open_within(period, max, moment, numbers::status(held, i)))
 }
 
 // "14 to 22 only on executable commands." Banks are read where a command asks for them: what is read before it is known which

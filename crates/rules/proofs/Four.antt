@@ -1,9 +1,10 @@
 -- Recursions on the four banks, as the code writes them out. Assumes nothing.
 use native.Mathlib.Omega.{arith}
 use mathlib.Core.Path.{◌≡◌, refl, ap, ◌∙◌}
-use mathlib.Core.Bool.{Bool, ◌&&◌, and-true}
+use mathlib.Core.Bool.{Bool, ◌&&◌, ◌||◌, and-true, or-false}
 use mathlib.Core.List.{List, [], ◌∷◌}
 use lib.ListN.{length}
+use Rattle.std.specs.List.{list_any}
 use Rattle.rules.specs.declared.Bank.{Bank}
 use Rattle.rules.specs.Banks.{bank_at, every}
 
@@ -20,3 +21,8 @@ four (a ∷ b ∷ c ∷ d ∷ e ∷ l) h = absurd (omega arith)
 pub every_four : (f : Bank → Bool) (l : List Bank) → length l ≡ 4
     → every f l ≡ (f (bank_at l 0) && (f (bank_at l 1) && (f (bank_at l 2) && f (bank_at l 3))))
 every_four f l h = ap (every f) (four l h) ∙ simp and-true
+
+-- whether one of them passes a test
+pub any_four : (f : Bank → Bool) (l : List Bank) → length l ≡ 4
+    → list_any f l ≡ (f (bank_at l 0) || (f (bank_at l 1) || (f (bank_at l 2) || f (bank_at l 3))))
+any_four f l h = ap (list_any f) (four l h) ∙ simp or-false

@@ -1,5 +1,6 @@
 pub mod Tests
 pub mod Near
+pub mod Each
 pub mod Easier
 pub mod Runs
 pub mod Demand3

@@ -33,6 +33,5 @@ impl Status {
 pub fn all_closed(banks: [Bank; 4]) -> bool
     ensures { result ≡ every closed banks }
 {
-    let [a, b, c, d] = banks;
-    a.status.is_closed() && b.status.is_closed() && c.status.is_closed() && d.status.is_closed()
+    banks.iter().all(|b| b.status.is_closed())
 }

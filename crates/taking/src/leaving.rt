@@ -20,6 +20,7 @@ use bus::databus;
 use layout::{Command, Record};
 use rules::timing::Timing;
 use rules::{Bank, Refreshes, Register, StartUp, Status, closing};
+use std::array;
 use units::{BANKS, Clock, Ps, time};
 
 // One refresh more, on clock n.
@@ -147,13 +148,7 @@ fn commanded(
     if !touches(k, r) {
         return all;
     }
-    let [a, b, c, d] = all;
-    [
-        bank_after(k, timing, end, again, r, n, moment, 0, a),
-        bank_after(k, timing, end, again, r, n, moment, 1, b),
-        bank_after(k, timing, end, again, r, n, moment, 2, c),
-        bank_after(k, timing, end, again, r, n, moment, 3, d),
-    ]
+    array::from_fn(|i| bank_after(k, timing, end, again, r, n, moment, i as u8, all[i]))
 }
 
 // The bus after the command, with the mode word and the open row that it finds.

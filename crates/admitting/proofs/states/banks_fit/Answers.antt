@@ -5,7 +5,7 @@ use borrow.Author.Tests.{tests}
 use Rattle.std.proofs.lemmas.Iterator.{YieldsList-from_slice}
 use Rattle.std.proofs.lemmas.Iterator.Search.{all_from_yields_List}
 use Rattle.rules.specs.Fits.{bank_fits}
-use Rattle.admitting.proofs.Each.{every_bank}
+use Rattle.rules.proofs.Each.{every_bank}
 use Rattle.admitting.proofs.states.banks_fit.Goals as goal
 
 pub returns : goal.returns
