@@ -53,21 +53,43 @@ fn first_case(cases: &[u8]) -> Option<(Case<'_>, &[u8])>
     Some((case, rest))
 }
 
-// The two words that the judge writes for a record.
+// A beat, as it is printed.
 #[derive(Clone, Copy)]
-struct Beat([u64; 2]);
+struct Beat {
+    letter: char,
+    clock: u64,
+    column: u64,
+    lanes: u64,
+}
 
-// ` R 13363 13 ff`; nothing where there is no beat.
-impl fmt::Display for Beat {
-    fn fmt<W: fmt::Write>(&self, f: &mut fmt::Formatter<W>) -> fmt::Result {
-        let [word, clock] = self.0;
+impl Beat {
+    // That of the two words that the judge writes for a record; none where the record has none.
+    fn of([word, clock]: [u64; 2]) -> Option<Beat> {
         let letter = match word / 281_474_976_710_656 % 256 {
-            0 => return Ok(()),
+            0 => return None,
             1 => 'R',
             _ => 'W',
         };
         let column = word / 256 % 65_536;
         let lanes = word % 256;
+        Some(Beat {
+            letter,
+            clock,
+            column,
+            lanes,
+        })
+    }
+}
+
+// ` R 13363 13 ff`
+impl fmt::Display for Beat {
+    fn fmt<W: fmt::Write>(&self, f: &mut fmt::Formatter<W>) -> fmt::Result {
+        let Beat {
+            letter,
+            clock,
+            column,
+            lanes,
+        } = self;
         write!(f, " {letter} {clock} {column} {lanes:02x}")
     }
 }
@@ -83,8 +105,10 @@ fn run_case(rt: &impl Print, case: Case<'_>) -> io::Result<()> {
     let interval = answer / 256 % 256;
     print!(rt; "{} {number} {record} {interval}", case.number)?;
     let (beats, _) = beats.as_chunks::<2>();
-    for &beat in beats {
-        rt.print(Beat(beat))?;
+    for &words in beats {
+        if let Some(beat) = Beat::of(words) {
+            rt.print(beat)?;
+        }
     }
     println!(rt)
 }

@@ -380,7 +380,7 @@ by_bank k =
     ∷ held (huge tWR) k (bank (Open 7 (clock 999)) (Some (clock 999)) (Some (clock 1_000))) (precharge 0 k) tWR
     ∷ held (huge tWR) k (bank (Open 7 (clock 999)) (Some (clock 999)) (Some (clock 1_000))) (all_banks 0) tWR
     ∷ free (huge tWR) k (bank (Open 7 (clock 999)) (Some (clock 999)) (Some (clock 999))) (all_banks 0)
-    -- an open bank whose `active` is Never: tRAS, tRCD, 13 and tWR count from the status's ACTIVE
+    -- an open bank whose `active` is None: tRAS, tRCD, 13 and tWR count from the status's ACTIVE
     ∷ held (huge tRAS) k (bank (Open 7 (clock 999)) None None) (precharge 0 k) tRAS
     ∷ held (huge tRCD) k (bank (Open 7 (clock 999)) None None) (read 0 k 0) tRCD
     ∷ held (huge tRCD) k (bank (Open 7 (clock 999)) None None) (write 0 k 0) tRCD
@@ -392,7 +392,7 @@ by_bank k =
     -- not from its `active`, if that is another
     ∷ runs_from (table 0 0 22_500 120_000_000 0 22_500 0 0 0 0 0 7_812_500 0)
     (with_bank k (bank (Open 7 (clock 998)) (Some (clock 1_000)) None)) (read 0 k 0 ∷ precharge 0 k ∷ []) 0 0 7 []
-    -- tRC and tRRD count from its `active`, and find no event where that is Never
+    -- tRC and tRRD count from its `active`, and find no event where that is None
     ∷ free (huge tRC) k (bank (Closed (time 0)) None None) (active 0 k 7)
     ∷ held (huge tRC) k (bank (Closed (time 0)) (Some (clock 1_000)) None) (active 0 k 7) tRC
     -- a bank not started is neither open nor closed

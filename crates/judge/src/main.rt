@@ -8,7 +8,6 @@ ghost use Rattle.lines.specs.Place.{Holds};
 ghost use Rattle.judge.specs.Output.{grade_of, printed, output};
 
 use layout::Header;
-use rules::Setup;
 use speed::SpeedTable;
 use std::io;
 use std::io::{Read, Write};
@@ -37,8 +36,8 @@ fn print_trace(trace: &[u8], out: &mut [u8; TEXT_MAX]) -> usize
     let table = SpeedTable::of_grade(grade(layout::read_header(trace)));
     let mut page = [0; PAGE_BYTES];
     let mut words = [0; WORDS];
-    let ran = hawsehole::judge(Setup { table }, trace, &mut page, &mut words);
-    lines::report(&words, hawsehole::answer_word(ran), out)
+    let answer = hawsehole::judge_beats(table, trace, &mut page, &mut words);
+    lines::report(&words, answer, out)
 }
 
 // All that is printed of an input.

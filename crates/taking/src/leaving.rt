@@ -193,13 +193,31 @@ pub fn banks_moved(
     )
 }
 
+// The beat stores a byte in a bank of the module.
+#[tactic(auto, unfolding(crate::specs::Marks::stores_byte))]
+pub fn stores(w: Beat) -> bool
+    ensures { result ≡ stores_byte w }
+{
+    match w {
+        Beat::Stores(c) => c.lanes != 0 && c.bank < BANKS,
+        _ => false,
+    }
+}
+
+// The bank of a WRITE's beat, whether it stores a byte or not.
+#[tactic(auto, unfolding(crate::specs::Marks::bank_of))]
+pub fn bank_of(w: Beat) -> u8
+    ensures { result ≡ bank_of w }
+{
+    match w {
+        Beat::Stores(c) => c.bank,
+        _ => 0,
+    }
+}
+
 // The bank of the module in which the beat stores a byte.
-#[tactic(auto, unfolding(crate::specs::Marks::stores_byte, crate::specs::Marks::bank_of))]
 pub fn stored_in(w: Beat) -> Option<u8>
     ensures { result ≡ cond (stores_byte w) (Some (bank_of w)) None }
 {
-    match w {
-        Beat::Stores(c) if c.lanes != 0 && c.bank < BANKS => Some(c.bank),
-        _ => None,
-    }
+    if stores(w) { Some(bank_of(w)) } else { None }
 }

@@ -4,7 +4,11 @@ use mathlib.Core.Path.{◌≡◌, refl}
 use borrow.Author.Tests.{leb-true}
 use Rattle.units.specs.declared.Module.{Module}
 use Rattle.units.specs.declared.Module.TheVariants.{Bench, Handheld}
-use Rattle.units.specs.Module.{rows, columns, page_bytes}
+use Rattle.units.specs.Module.{rows, columns, lanes, page_bytes}
+
+pub lanes_fit : (m : Module) → lanes m ≤ 8
+lanes_fit Bench = leb-true 8 8 refl
+lanes_fit Handheld = leb-true 2 8 refl
 
 -- a row is a 13-bit number, a column an 11-bit number
 pub rows_fit : (m : Module) → rows m ≤ 8192

@@ -49,5 +49,5 @@ fn numbers(s: State) -> [u64; WORDS]
 pub fn holds(words: &[u64]) -> bool
     ensures { result ≡ holds words.now }
 {
-    words == numbers(state(words)).as_slice()
+    words.len() == WORDS && words == numbers(state(words)).as_slice()
 }

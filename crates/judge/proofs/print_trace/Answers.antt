@@ -5,7 +5,8 @@ use Rattle.judge.proofs.print_trace.Goals as goal
 
 pub returns : goal.returns
 returns c =
-    let words = c.judge-ran.new.beats in
+    let judged = c.judge_beats-answer in
+    let words = judged.new.beats in
     let room : length c.args.out.now ≡ 450560 = search rules in
     let full : length words ≡ 8190 = search rules in
-    printed_held c.args.trace.now _ _ _ _ _ _ words c.args.out.now _ _ c.read_header.ensures c.grade.ensures c.of_grade-table.ensures c.judge-ran.ensures c.answer_word.ensures full room c.report.ensures
+    printed_held c.args.trace.now _ _ _ _ _ words c.args.out.now _ _ c.read_header.ensures c.grade.ensures c.of_grade-table.ensures judged.ensures full room c.report.ensures
