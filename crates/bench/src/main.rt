@@ -63,7 +63,7 @@ struct Beat {
 }
 
 impl Beat {
-    // That of the two words that the judge writes for a record; none where the record has none.
+    // From the two words that the judge writes for a record; none where they hold no beat.
     fn of([word, clock]: [u64; 2]) -> Option<Beat> {
         let letter = match word / 281_474_976_710_656 % 256 {
             0 => return None,

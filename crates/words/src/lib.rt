@@ -44,7 +44,8 @@ fn numbers(s: State) -> [u64; WORDS]
     words
 }
 
-// These words are as many as a state has, and are those of the state that they are read as.
+// These words are as many as a state has, and are those of the state that they are read as. Their number is asked first, though equal
+// slices are as long: it spares reading a state of the others, and with it known the reading is a fifth cheaper.
 #[tactic(auto, using(crate::proofs::Equal::equal_words, crate::proofs::Stores::words_length), unfolding(crate::specs::Words::holds))]
 pub fn holds(words: &[u64]) -> bool
     ensures { result ≡ holds words.now }
